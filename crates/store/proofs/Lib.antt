@@ -1,0 +1,6 @@
+pub mod AreaLaws
+pub mod Choice
+pub mod Counting
+pub mod Loops
+pub mod Soundness
+pub mod TableLaws

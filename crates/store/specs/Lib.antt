@@ -1,0 +1,6 @@
+pub mod Area
+pub mod Fresh
+pub mod Layout
+pub mod Limits
+pub mod Numbers
+pub mod Shape
