@@ -18,6 +18,11 @@ pub both : (a b : Bool) → a && b ≡ true → (a ≡ true) × (b ≡ true)
 both true b e = (refl, e)
 both false b e = absurd (true-false (sym e))
 
+-- neither of two tests
+pub neither : (a b : Bool) → a || b ≡ false → (a ≡ false) × (b ≡ false)
+neither true b e = absurd (true-false e)
+neither false b e = (refl, e)
+
 pub is-true : (a : Bool) → T a → a ≡ true
 is-true true t = refl
 is-true false t = absurd t

@@ -10,7 +10,7 @@ use borrow.Author.Tests.{leb-true, eqb-false, not-true, le-leb, ne-eqb}
 use lib.Dec.{T, leb, leb→le}
 use lib.ListN.{length, getD, set, getD-replicate, List·getD-eq-default}
 use lib.Seq.{getD-set-same, getD-set-other, set-out}
-use Rattle.store.proofs.AreaLaws.{length-area, at-past, length-put, area-put, area-kept, at-kept, length-blank, area-blank, at-inside, within, at-same}
+use Rattle.store.proofs.AreaLaws.{length-area, at-past, length-put, area-put, area-kept, at-kept, length-blank, area-blank, area-blank-kept, at-inside, within, at-same}
 use Rattle.store.proofs.Choice.{both, or-inl, or-inr, eq-or, lt-or}
 use Rattle.store.proofs.Counting.{every-at, every-of, spans-at, spans-of, smaller-at, smaller-of}
 use Rattle.store.proofs.TableLaws.{same-row, row-refl, each, each-at, apart-or-same}
@@ -161,6 +161,22 @@ ranged-put b m i x w t h l r a k u j =
     subst (λ (z : Range). getD (area (z .within) (put b i x w)) j 0 ≤ z .most) (sym e) (rw (area-put b i x w h) (set-most (area b w) m i x j (r b m t j) l)))
     (λ (p : T (apart a b)). rw (area-kept a b i x w p h) (r a k u j))
     (apart-or-same (a upto k) (b upto m) u t)
+
+-- an area that is in no row may hold anything
+abbrev pub rowless : Area → Bool
+rowless b = each (λ r. apart (r .within) b) table
+
+module _ (b : Area) (w : List ℕ) (free : rowless b ≡ true) (r : Ranged w) where
+  clear-of : (a : Area) (k : ℕ) → T (listed (a upto k) table) → T (apart a b)
+  clear-of a k u = rw (each-at (λ r. apart (r .within) b) table (a upto k) free u) tt
+
+  pub ranged-beside : (i x : ℕ) → i < b .size → Ranged (put b i x w)
+  unfolding at
+  ranged-beside i x h a k u j = rw (area-kept a b i x w (clear-of a k u) h) (r a k u j)
+
+  pub ranged-blank : Fits b w → Ranged (blank b w)
+  unfolding at
+  ranged-blank h a k u j = rw (area-blank-kept a b w (clear-of a k u) h) (r a k u j)
 
 -- the tables are sound wherever their region is the same
 module _ (s w : List ℕ) (e : area tablesRegion s ≡ area tablesRegion w) where

@@ -3,7 +3,7 @@
 use Prim.Native.Nat.{ℕ, _+_, _-_}
 use mathlib.Core.List.{List, [], _∷_}
 use Rattle.store.specs.Area.{Area, Range, _upto_, flat}
-use Rattle.store.specs.Limits.{variables, clauses, names, versionSets, unions, cellRoom, disjunctions, literalRoom, conditionRoom, nameRoom, nodes, trailRoom, lastActivity, lastWord, requirements, unionLists, lists, lastVariable, lastName, lastVersionSet, lastRequirement, mostUnionSize, mostDisjunctionSize}
+use Rattle.store.specs.Limits.{variables, clauses, names, versionSets, unions, cellRoom, disjunctions, literalRoom, conditionRoom, nameRoom, nodes, trailRoom, lastActivity, requirements, unionLists, lists, lastVariable, lastName, lastVersionSet, lastRequirement, mostUnionSize, mostDisjunctionSize}
 
 -- an area of n words behind another
 abbrev pub behind : Area → ℕ → Area
@@ -221,7 +221,7 @@ clausesRegion = region clauseCount clauseIds
 abbrev pub tablesRegion : Area
 tablesRegion = region setNames nodeRights
 
--- every area, with the largest number that a word of it may hold
+-- every area whose numbers have a range, with the largest number that a word of it may hold
 abbrev pub table : List Range
 table =
     queued upto 1
@@ -234,10 +234,8 @@ table =
     ∷ syncFloor upto trailRoom
     ∷ propagated upto trailRoom
     ∷ trailLength upto trailRoom
-    ∷ map upto lastWord
     ∷ trailVariables upto lastVariable
     ∷ trailValues upto 1
-    ∷ trailClauses upto lastWord
     ∷ mode upto 1
     ∷ activities upto lastActivity
     ∷ hotNames upto 1
@@ -247,7 +245,6 @@ table =
     ∷ clauseParents upto lastVariable
     ∷ clauseRequirements upto lastRequirement
     ∷ clauseConditions upto disjunctions
-    ∷ clauseIds upto lastWord
     ∷ setNames upto names
     ∷ unionSizes upto mostUnionSize
     ∷ unionSets upto lastVersionSet
@@ -267,6 +264,10 @@ table =
     ∷ nodeLefts upto nodes
     ∷ nodeRights upto nodes
     ∷ []
+
+-- the areas whose words may be any u32, but for one number in the map
+abbrev pub openOf : List ℕ
+openOf = map .base ∷ map .size ∷ trailClauses .base ∷ trailClauses .size ∷ clauseIds .base ∷ clauseIds .size ∷ words ∷ []
 
 -- each row's base, size and largest number, as the source has them
 abbrev pub layoutOf : List ℕ

@@ -1,6 +1,6 @@
 // The areas of the store: where each begins and how many words it has. Nothing above this crate sees a number of these.
 ghost use mathlib.Core.Path.{_≡_};
-ghost use Rattle.store.specs.Layout.{layoutOf};
+ghost use Rattle.store.specs.Layout.{layoutOf, openOf};
 use crate::limits;
 
 // Whether each clause is queued, in position order.
@@ -221,11 +221,11 @@ pub const UNION_LENGTHS: usize = LIST_LENGTHS + limits::VERSION_SETS;
 // How many words a store needs.
 pub const WORDS: usize = NODE_RIGHTS + NODE_RIGHTS_SIZE;
 
-// How many areas there are.
-pub const AREAS: usize = 42;
+// How many areas hold numbers that have a range.
+pub const ROWS: usize = 39;
 
-// A row for each area: its base, its size and the largest number that a word of it may hold.
-pub fn layout() -> [usize; 126]
+// A row for each of them: its base, its size and the largest number that a word of it may hold.
+pub fn layout() -> [usize; 117]
     ensures { λ r. ⌜ r ≡ layoutOf ⌝ }
 {
     [
@@ -259,18 +259,12 @@ pub fn layout() -> [usize; 126]
         TRAIL_LENGTH,
         TRAIL_LENGTH_SIZE,
         limits::TRAIL_ROOM,
-        MAP,
-        MAP_SIZE,
-        limits::LAST_WORD,
         TRAIL_VARIABLES,
         TRAIL_VARIABLES_SIZE,
         limits::LAST_VARIABLE,
         TRAIL_VALUES,
         TRAIL_VALUES_SIZE,
         1,
-        TRAIL_CLAUSES,
-        TRAIL_CLAUSES_SIZE,
-        limits::LAST_WORD,
         MODE,
         MODE_SIZE,
         1,
@@ -298,9 +292,6 @@ pub fn layout() -> [usize; 126]
         CLAUSE_CONDITIONS,
         CLAUSE_CONDITIONS_SIZE,
         limits::DISJUNCTIONS,
-        CLAUSE_IDS,
-        CLAUSE_IDS_SIZE,
-        limits::LAST_WORD,
         SET_NAMES,
         SET_NAMES_SIZE,
         limits::NAMES,
@@ -355,5 +346,20 @@ pub fn layout() -> [usize; 126]
         NODE_RIGHTS,
         NODE_RIGHTS_SIZE,
         limits::NODES,
+    ]
+}
+
+// The other areas, and the number of words.
+pub fn unranged() -> [usize; 7]
+    ensures { λ r. ⌜ r ≡ openOf ⌝ }
+{
+    [
+        MAP,
+        MAP_SIZE,
+        TRAIL_CLAUSES,
+        TRAIL_CLAUSES_SIZE,
+        CLAUSE_IDS,
+        CLAUSE_IDS_SIZE,
+        WORDS,
     ]
 }

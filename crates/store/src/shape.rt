@@ -34,7 +34,7 @@ fn in_range(s: &[u32]) -> bool
 {
     let rows = areas::layout();
     let mut i: usize = 0;
-    while i < areas::AREAS {
+    while i < areas::ROWS {
         let base = rows[3 * i];
         let n = rows[3 * i + 1];
         let most = rows[3 * i + 2] as u32;

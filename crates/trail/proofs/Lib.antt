@@ -1,0 +1,3 @@
+pub mod Assigning
+pub mod Popping
+pub mod Reading
