@@ -2,5 +2,6 @@ pub mod AreaLaws
 pub mod Choice
 pub mod Counting
 pub mod Loops
+pub mod Runs
 pub mod Soundness
 pub mod TableLaws

@@ -21,6 +21,11 @@ at a i w = getD (area a w) i 0
 unfoldable pub put : Area → ℕ → ℕ → List ℕ → List ℕ
 put a i x w = set w (a .base + i) x
 
+-- the words with a list written into an area, from its word i on
+unfoldable pub putRun : Area → ℕ → List ℕ → List ℕ → List ℕ
+putRun a i [] w = w
+putRun a i (x ∷ xs) w = putRun a (i + 1) xs (put a i x w)
+
 -- the words with every word of an area 0
 unfoldable pub blank : Area → List ℕ → List ℕ
 blank a w = take (a .base) w ++ (replicate (a .size) 0 ++ drop (a .base + a .size) w)

@@ -6,6 +6,7 @@ ghost use Rattle.store.specs.Area.{at, put, blank};
 
 pub mod areas;
 pub mod fresh;
+pub mod lent;
 pub mod limits;
 pub mod read;
 pub mod shape;
