@@ -6,10 +6,10 @@ use mathlib.Core.Path.{_≡_, refl, sym, ap, _∙_}
 use Prim.Native.Nat.{ℕ, suc, _+_, _-_, _≤_, _<_}
 use native.Mathlib.Omega.{arith}
 use borrow.Author.Tests.{leb-true}
-use lib.Dec.{T, leb}
+use lib.Dec.{T, leb, le→leb}
 use lib.ListN.{length, getD, take, drop, set, replicate, length-append, take-append-drop, length-take, length-drop, length-set, length-replicate, replicate-append-replicate, List·getD-eq-default}
 use lib.Seq.{drop-cons, take-append-le, drop-append-le, drop-append-add, getD-set-same, getD-set-other, take-set-le, drop-set-lt, take-set-lt, drop-set-add, getD-take, getD-drop, drop-drop, set-at, take-at, drop-at}
-use Rattle.store.proofs.Choice.{both, is-true, lt-or}
+use Rattle.store.proofs.Choice.{both, is-true, or-inl, or-inr, lt-or}
 use Rattle.store.specs.Area.{Area, area, at, put, blank, Write, puts, write, Fits, apart, Inside, clearOf}
 
 -- what the code reads
@@ -166,3 +166,28 @@ at-same a b s w t e i = ⊎-elim inner (λ (h : a .size ≤ i). at-past a i s h 
         let l = leb-true (b .base) (a .base) (p .0) in
         let m = leb-true (a .base + a .size) (b .base + b .size) (p .1) in
         at-inside a b i s l m h ∙ ap (λ l. getD l (a .base - b .base + i) 0) e ∙ sym (at-inside a b i w l m h)
+
+pub at-puts-here : (a : Area) (i x : ℕ) (before after : List Write) (w : List ℕ) → Fits a w → i < a .size → T (clearOf a after) → Inside after → at a i (puts (before ++ write a i x ∷ after) w) ≡ x
+at-puts-here a i x [] after w f h t k = at-written a i x after w f h t k
+at-puts-here a i x (y ∷ ys) after w f h t k =
+    at-puts-here a i x ys after (put (y .to) (y .place) (y .word) w) (rw (length-put (y .to) (y .place) (y .word) w) f) h t k
+
+-- an area that shares no word with a region shares none with an area inside it
+pub apart-inside : (a b c : Area) → T (apart a c) → T (within b c) → T (apart a b)
+apart-inside a b c p i =
+    let q = both (leb (c .base) (b .base)) (leb (b .base + b .size) (c .base + c .size)) (is-true (within b c) i) in
+    let l = leb-true (c .base) (b .base) (q .0) in
+    let m = leb-true (b .base + b .size) (c .base + c .size) (q .1) in
+    one-first a c p
+    (λ h. or-inl (leb (a .base + a .size) (b .base)) (leb (b .base + b .size) (a .base)) (le→leb (a .base + a .size) (b .base) (omega arith)))
+    (λ h. or-inr (leb (a .base + a .size) (b .base)) (leb (b .base + b .size) (a .base)) (le→leb (b .base + b .size) (a .base) (omega arith)))
+
+abbrev pub allWithin : Area → List Write → Bool
+allWithin c [] = true
+allWithin c (x ∷ xs) = within (x .to) c && allWithin c xs
+
+pub clear-outside : (a c : Area) (ws : List Write) → T (apart a c) → T (allWithin c ws) → T (clearOf a ws)
+clear-outside a c [] p i = tt
+clear-outside a c (x ∷ xs) p i =
+    let q = both (within (x .to) c) (allWithin c xs) (is-true (allWithin c (x ∷ xs)) i) in
+    rw (is-true (apart a (x .to)) (apart-inside a (x .to) c p (rw (q .0) tt)), is-true (clearOf a xs) (clear-outside a c xs p (rw (q .1) tt))) tt

@@ -1,0 +1,272 @@
+-- THE TRAIL'S CALLS KEEP A STORE SOUND, and change nothing outside the trail's region. Assumes nothing.
+use mathlib.Core.Bool.{Bool, true, false, cond}
+use mathlib.Core.List.{List, [], _∷_}
+use mathlib.Core.Logic.{⊎-elim, _≢_}
+use mathlib.Core.Path.{_≡_, refl, _∙_}
+use Prim.Native.Nat.{ℕ, zero, suc, _+_, _-_, _≤_, _<_}
+use native.Mathlib.Omega.{arith}
+use borrow.Author.Tests.{ltb-true, ltb-false}
+use lib.Dec.{T, leb, ltb, eqb}
+use lib.ListN.{length, getD, replicate, length-replicate, getD-replicate, List·getD-eq-default}
+use Rattle.store.proofs.AreaLaws.{length-put, at-put-same, at-put-else, area-kept, at-kept, length-blank, area-blank, area-blank-kept, length-puts, area-puts, at-puts, at-puts-here, apart-inside, clear-outside}
+use Rattle.store.proofs.Choice.{eq-or, lt-or}
+use Rattle.store.proofs.Soundness.{sound-shape, ranged-put, ranged-beside, ranged-blank, tabled-same}
+use Rattle.store.specs.Area.{Area, area, at, put, blank, Write, write, apart, Inside, clearOf}
+use Rattle.store.specs.Layout.{mirrorLength, syncFloor, propagated, trailLength, map, trailVariables, trailValues, trailClauses, words, trailRegion, tablesRegion}
+use Rattle.store.specs.Limits.{variables, trailRoom, lastLevel, mapHole, lastVariable}
+use Rattle.store.specs.Shape.{Sound}
+use Rattle.trail.proofs.Assigning.{Fitting, new-fits}
+use Rattle.trail.proofs.Popping.{entered, pop-inside, popped-count, popped-kept}
+use Rattle.trail.specs.Assign.{assignIn, pushWrites, pushed, assignLeft, assignInStore, assignOut, assignStore}
+use Rattle.trail.specs.Cell.{cellOf}
+use Rattle.trail.specs.Entries.{entries, lastLevelOf, Entered}
+use Rattle.trail.specs.Next.{nextIn, nextInStore, nextOut, nextStore}
+use Rattle.trail.specs.UndoLast.{least, popWrites, popped, undoLastIn, undoLastInStore, undoLastOut, undoLastStore}
+use Rattle.trail.specs.UndoUntil.{poppedTo, cleared, noStop, undoUntilIn, undoUntilInStore, undoUntilOut, undoUntilStore}
+use Rattle.trail.specs.declared.Assigned.{Assigned}
+use Rattle.trail.specs.declared.Assigned.the-variants.{New, Already, Refused}
+
+-- the smaller of two numbers
+pub least-left : (a b : ℕ) → least a b ≤ a
+unfolding least
+least-left a b = go (ltb a b) refl
+  where
+    go : (t : Bool) → ltb a b ≡ t → cond t a b ≤ a
+    go true e = omega arith
+    go false e = omega (arith, ltb-false a b e)
+
+pub least-right : (a b : ℕ) → least a b ≤ b
+unfolding least
+least-right a b = go (ltb a b) refl
+  where
+    go : (t : Bool) → ltb a b ≡ t → cond t a b ≤ b
+    go true e = omega (arith, ltb-true a b e)
+    go false e = omega arith
+
+-- a cell that is written is never the one number without an opposite
+cell-sound : (value level : ℕ) → 0 < level → level ≤ lastLevel → cellOf value level ≢ mapHole
+unfolding cellOf
+cell-sound value level a b = go (eqb value 1)
+  where
+    go : (t : Bool) → cond t level (4294967296 - level) ≢ mapHole
+    go true = omega arith
+    go false = omega arith
+
+map-sound : (w : List ℕ) (v x : ℕ) → words ≤ length w → v < variables → x ≢ mapHole → ((u : ℕ) → at map u w ≢ mapHole) → (u : ℕ) → at map u (put map v x w) ≢ mapHole
+map-sound w v x long h n f u =
+    ⊎-elim
+    (λ (e : u ≡ v). rw (e, at-put-same map v x w h (omega arith)) n)
+    (λ (e : u ≡ v → ⊥). rw (at-put-else map v u x w h e) (f u))
+    (eq-or u v)
+
+-- assigning
+module _ (w : List ℕ) (variable value level clause : ℕ) (f : Fitting w variable value level) where
+  push-inside : Inside (pushWrites w variable value level clause)
+  push-inside = (f .variable<, (f .room, (f .room, (f .room, (omega arith, tt)))))
+
+  pub pushed-kept : (a : Area) (k : ℕ) → T (clearOf a (pushWrites w variable value level clause)) → at a k (pushed w variable value level clause) ≡ at a k w
+  unfolding pushed
+  pushed-kept a k t = at-puts a (pushWrites w variable value level clause) w k t push-inside
+
+  pub pushed-outside : (a : Area) → T (apart a trailRegion) → area a (pushed w variable value level clause) ≡ area a w
+  unfolding pushed
+  pushed-outside a t = area-puts a (pushWrites w variable value level clause) w (clear-outside a trailRegion (pushWrites w variable value level clause) t tt) push-inside
+
+  pub pushed-count : words ≤ length w → entries (pushed w variable value level clause) ≡ entries w + 1
+  unfolding pushed
+  pushed-count long =
+      at-puts-here trailLength 0 (entries w + 1)
+      (write map variable (cellOf value level) ∷ write trailVariables (entries w) variable ∷ write trailValues (entries w) value ∷ write trailClauses (entries w) clause ∷ [])
+      [] w (omega arith) (omega arith) tt tt
+
+  pub pushed-sound : Sound w → Sound (pushed w variable value level clause)
+  unfolding pushed
+  pushed-sound h =
+      let n = entries w in
+      let a = put map variable (cellOf value level) w in
+      let b = put trailVariables n variable a in
+      let c = put trailValues n value b in
+      let d = put trailClauses n clause c in
+      let count = pushed-count (h .long) in
+      let ra = ranged-beside map w refl (h .ranges) variable (cellOf value level) (f .variable<) in
+      let rb = ranged-put trailVariables lastVariable n variable a tt (f .room) (omega (arith, f .variable<)) ra in
+      let rc = ranged-put trailValues 1 n value b tt (f .room) (omega (arith, f .value<)) rb in
+      let rd = ranged-beside trailClauses c refl rc n clause (f .room) in
+      record {
+        long = rw (length-puts (pushWrites w variable value level clause) w) (h .long);
+        ranges = ranged-put trailLength trailRoom 0 (n + 1) d tt (omega arith) (omega (arith, f .room)) rd;
+        cells = λ v. rw (at-puts map (write trailVariables n variable ∷ write trailValues n value ∷ write trailClauses n clause ∷ write trailLength 0 (n + 1) ∷ []) a v tt (f .room, (f .room, (f .room, (omega arith, tt))))) (map-sound w variable (cellOf value level) (h .long) (f .variable<) (cell-sound value level (f .some) (f .level≤)) (h .cells) v);
+        tables = tabled-same (pushed w variable value level clause) w (pushed-outside tablesRegion tt) (h .tables);
+        floor-trail = rw (pushed-kept syncFloor 0 tt, count) (omega (arith, h .floor-trail));
+        floor-mirror = rw (pushed-kept syncFloor 0 tt, pushed-kept mirrorLength 0 tt) (h .floor-mirror);
+        index = rw (pushed-kept propagated 0 tt, count) (omega (arith, h .index));
+      }
+
+-- taking back
+module _ (w : List ℕ) (h : Sound w) where
+  e : Entered w
+  e = entered w h
+
+  pub popped-outside : (a : Area) → T (apart a trailRegion) → area a (popped w) ≡ area a w
+  unfolding popped
+  popped-outside a t = area-puts a (popWrites w) w (clear-outside a trailRegion (popWrites w) t tt) (pop-inside w e)
+
+  popped-index : at propagated 0 (popped w) ≡ entries w - 1
+  unfolding popped
+  popped-index =
+      at-puts-here propagated 0 (entries w - 1)
+      (write map (at trailVariables (entries w - 1) w) 0 ∷ write trailLength 0 (entries w - 1) ∷ [])
+      (write syncFloor 0 (least (entries w - 1) (at syncFloor 0 w)) ∷ [])
+      w (omega (arith, h .long)) (omega arith) tt (omega arith, tt)
+
+  popped-floor : at syncFloor 0 (popped w) ≡ least (entries w - 1) (at syncFloor 0 w)
+  unfolding popped
+  popped-floor =
+      at-puts-here syncFloor 0 (least (entries w - 1) (at syncFloor 0 w))
+      (write map (at trailVariables (entries w - 1) w) 0 ∷ write trailLength 0 (entries w - 1) ∷ write propagated 0 (entries w - 1) ∷ [])
+      [] w (omega (arith, h .long)) (omega arith) tt tt
+
+  pub popped-sound : Sound (popped w)
+  unfolding popped
+  popped-sound =
+      let n = entries w - 1 in
+      let v = at trailVariables n w in
+      let l = least n (at syncFloor 0 w) in
+      let few = e .few in
+      let low = least-left n (at syncFloor 0 w) in
+      let under = least-right n (at syncFloor 0 w) in
+      let a = put map v 0 w in
+      let b = put trailLength 0 n a in
+      let c = put propagated 0 n b in
+      let ra = ranged-beside map w refl (h .ranges) v 0 (e .named n) in
+      let rb = ranged-put trailLength trailRoom 0 n a tt (omega arith) (omega arith) ra in
+      let rc = ranged-put propagated trailRoom 0 n b tt (omega arith) (omega arith) rb in
+      record {
+        long = rw (length-puts (popWrites w) w) (h .long);
+        ranges = ranged-put syncFloor trailRoom 0 l c tt (omega arith) (omega arith) rc;
+        cells = λ u. rw (at-puts map (write trailLength 0 n ∷ write propagated 0 n ∷ write syncFloor 0 l ∷ []) a u tt (omega arith, (omega arith, (omega arith, tt)))) (map-sound w v 0 (h .long) (e .named n) (omega arith) (h .cells) u);
+        tables = tabled-same (popped w) w (popped-outside tablesRegion tt) (h .tables);
+        floor-trail = rw (popped-floor, popped-count w e) low;
+        floor-mirror = rw (popped-floor, popped-kept w e mirrorLength 0 tt) (omega (arith, h .floor-mirror));
+        index = rw (popped-index, popped-count w e) (omega arith);
+      }
+
+pub poppedTo-sound : (level n : ℕ) (w : List ℕ) → Sound w → Sound (poppedTo level n w)
+unfolding poppedTo
+poppedTo-sound level zero w h = h
+poppedTo-sound level (suc n) w h = go (leb (lastLevelOf w) level) (poppedTo-sound level n (popped w) (popped-sound w h))
+  where
+    go : (b : Bool) → Sound (poppedTo level n (popped w)) → Sound (cond b w (poppedTo level n (popped w)))
+    go true s = h
+    go false s = s
+
+module _ (w : List ℕ) (h : Sound w) where
+  clearWrites : List Write
+  clearWrites = write trailLength 0 0 ∷ write propagated 0 0 ∷ write syncFloor 0 0 ∷ []
+
+  pub cleared-outside : (a : Area) → T (apart a trailRegion) → area a (cleared w) ≡ area a w
+  unfolding cleared clearWrites
+  cleared-outside a t =
+      area-puts a clearWrites (blank map w) (clear-outside a trailRegion clearWrites t tt) (omega arith, (omega arith, (omega arith, tt)))
+      ∙ area-blank-kept a map w (apart-inside a map trailRegion t tt) (omega (arith, h .long))
+
+  long-blank : words ≤ length (blank map w)
+  long-blank = rw (length-blank map w (omega (arith, h .long))) (h .long)
+
+  cleared-floor : at syncFloor 0 (cleared w) ≡ 0
+  unfolding cleared
+  cleared-floor = at-puts-here syncFloor 0 0 (write trailLength 0 0 ∷ write propagated 0 0 ∷ []) [] (blank map w) (omega (arith, long-blank)) (omega arith) tt tt
+
+  cleared-index : at propagated 0 (cleared w) ≡ 0
+  unfolding cleared
+  cleared-index = at-puts-here propagated 0 0 (write trailLength 0 0 ∷ []) (write syncFloor 0 0 ∷ []) (blank map w) (omega (arith, long-blank)) (omega arith) tt (omega arith, tt)
+
+  cleared-map : (v : ℕ) → at map v (cleared w) ≡ 0
+  unfolding cleared clearWrites at
+  cleared-map v = at-puts map clearWrites (blank map w) v tt (omega arith, (omega arith, (omega arith, tt))) ∙ rw (area-blank map w (omega (arith, h .long))) (zeros v)
+    where
+      zeros : (v : ℕ) → _≡_ {A = ℕ} (getD (replicate variables 0) v 0) 0
+      zeros v =
+          ⊎-elim
+          (λ (l : v < variables). getD-replicate variables v 0 0 l)
+          (λ (l : variables ≤ v). List·getD-eq-default (replicate variables 0) 0 {n = v} (rw (length-replicate {A = ℕ} variables 0) l))
+          (lt-or v variables)
+
+  pub cleared-sound : Sound (cleared w)
+  unfolding cleared
+  cleared-sound =
+      let b = blank map w in
+      let rb = ranged-blank map w refl (h .ranges) (omega (arith, h .long)) in
+      let rl = ranged-put trailLength trailRoom 0 0 b tt (omega arith) (omega arith) rb in
+      let rp = ranged-put propagated trailRoom 0 0 (put trailLength 0 0 b) tt (omega arith) (omega arith) rl in
+      record {
+        long = rw (length-puts (write trailLength 0 0 ∷ write propagated 0 0 ∷ write syncFloor 0 0 ∷ []) b) long-blank;
+        ranges = ranged-put syncFloor trailRoom 0 0 (put propagated 0 0 (put trailLength 0 0 b)) tt (omega arith) (omega arith) rp;
+        cells = λ v. rw (cleared-map v) (omega arith);
+        tables = tabled-same (cleared w) w (cleared-outside tablesRegion tt) (h .tables);
+        floor-trail = rw cleared-floor (omega arith);
+        floor-mirror = rw cleared-floor (omega arith);
+        index = rw cleared-index (omega arith);
+      }
+
+  -- handing an entry out
+  moved-sound : at propagated 0 w < entries w → Sound (put propagated 0 (at propagated 0 w + 1) w)
+  moved-sound l =
+      let i = at propagated 0 w + 1 in
+      record {
+        long = rw (length-put propagated 0 i w) (h .long);
+        ranges = ranged-put propagated trailRoom 0 i w tt (omega arith) (omega (arith, h .ranges trailLength trailRoom tt 0)) (h .ranges);
+        cells = λ v. rw (at-kept map propagated 0 v i w tt (omega arith)) (h .cells v);
+        tables = tabled-same (put propagated 0 i w) w (area-kept tablesRegion propagated 0 i w tt (omega arith)) (h .tables);
+        floor-trail = rw (at-kept syncFloor propagated 0 0 i w tt (omega arith), at-kept trailLength propagated 0 0 i w tt (omega arith)) (h .floor-trail);
+        floor-mirror = rw (at-kept syncFloor propagated 0 0 i w tt (omega arith), at-kept mirrorLength propagated 0 0 i w tt (omega arith)) (h .floor-mirror);
+        index = rw (at-put-same propagated 0 i w (omega arith) (omega (arith, h .long)), at-kept trailLength propagated 0 0 i w tt (omega arith)) (omega arith);
+      }
+
+-- EVERY CALL
+cond-sound : (b : Bool) (x y : List ℕ) → (b ≡ true → Sound x) → (b ≡ false → Sound y) → Sound (cond b x y)
+cond-sound true x y f g = f refl
+cond-sound false x y f g = g refl
+
+module _ (w : List ℕ) (h : Sound w) where
+  pub assign-sound : (variable value level clause : ℕ) → Sound (assignInStore w variable value level clause)
+  unfolding assignInStore
+  assign-sound variable value level clause = go (assignIn w variable value level) refl
+    where
+      go : (r : Assigned) → assignIn w variable value level ≡ r → Sound (assignLeft r w variable value level clause)
+      go New e = pushed-sound w variable value level clause (new-fits w variable value level e) h
+      go Already e = h
+      go (Refused n) e = h
+
+  pub undo-last-sound : Sound (undoLastInStore w)
+  unfolding undoLastInStore
+  undo-last-sound = cond-sound (ltb (entries w) 2) w (popped w) (λ e. h) (λ e. popped-sound w h)
+
+  pub undo-until-sound : (level : ℕ) → Sound (undoUntilInStore w level)
+  unfolding undoUntilInStore
+  undo-until-sound level =
+      cond-sound (ltb lastLevel level) w _ (λ e. h)
+      (λ e. cond-sound (eqb level 0) (cleared w) _ (λ f. cleared-sound w h)
+      (λ f. cond-sound (noStop w level) w (poppedTo level (entries w) w) (λ g. h) (λ g. poppedTo-sound level (entries w) w h)))
+
+  pub next-sound : Sound (nextInStore w)
+  unfolding nextInStore
+  next-sound = cond-sound (ltb (at propagated 0 w) (entries w)) _ w (λ e. moved-sound w h (ltb-true _ _ e)) (λ e. h)
+
+-- on a sound store a public call is its inner one
+module _ (w : List ℕ) (h : Sound w) where
+  pub assign-public : (variable value level clause : ℕ) → (assignOut w variable value level ≡ assignIn w variable value level) × (assignStore w variable value level clause ≡ assignInStore w variable value level clause)
+  unfolding assignOut assignStore
+  assign-public variable value level clause = rw (sound-shape w h) (refl, refl)
+
+  pub undo-last-public : (undoLastOut w ≡ undoLastIn w) × (undoLastStore w ≡ undoLastInStore w)
+  unfolding undoLastOut undoLastStore
+  undo-last-public = rw (sound-shape w h) (refl, refl)
+
+  pub undo-until-public : (level : ℕ) → (undoUntilOut w level ≡ undoUntilIn w level) × (undoUntilStore w level ≡ undoUntilInStore w level)
+  unfolding undoUntilOut undoUntilStore
+  undo-until-public level = rw (sound-shape w h) (refl, refl)
+
+  pub next-public : (nextOut w ≡ nextIn w) × (nextStore w ≡ nextInStore w)
+  unfolding nextOut nextStore
+  next-public = rw (sound-shape w h) (refl, refl)
