@@ -210,14 +210,14 @@ pub fn undo_until(s: &mut [u32], level: u32) -> Until
     if (limits::LAST_LEVEL as u32) < level {
         return Until::Refused(4);
     }
-    if level == 0 {
-        clear(s);
+    if 0 < level {
+        if no_stop(s, level) {
+            return Until::Refused(6);
+        }
+        pop_to(s, level);
         return Until::Done;
     }
-    if no_stop(s, level) {
-        return Until::Refused(6);
-    }
-    pop_to(s, level);
+    clear(s);
     Until::Done
 }
 
