@@ -11,12 +11,12 @@ use lib.Dec.{T, leb, leb→le}
 use lib.ListN.{length, getD, set, getD-replicate, List·getD-eq-default}
 use lib.Seq.{getD-set-same, getD-set-other, set-out}
 use Rattle.store.proofs.AreaLaws.{length-area, at-past, length-put, area-put, area-kept, at-kept, length-blank, area-blank, area-blank-kept, at-inside, within, at-same}
-use Rattle.store.proofs.Choice.{both, or-inl, or-inr, eq-or, lt-or}
+use Rattle.store.proofs.Choice.{both, is-true, or-inl, or-inr, eq-or, lt-or}
 use Rattle.store.proofs.Counting.{every-at, every-of, spans-at, spans-of, smaller-at, smaller-of}
 use Rattle.store.proofs.TableLaws.{same-row, row-refl, each, each-at, apart-or-same}
 use Rattle.store.specs.Area.{Area, area, at, put, blank, Fits, apart, Range, _upto_}
 use Rattle.store.specs.Fresh.{whole, freshWords}
-use Rattle.store.specs.Layout.{mirrorLength, syncFloor, propagated, trailLength, map, mode, singleCells, unionCells, disjunctionStarts, disjunctionSizes, nodeLefts, nodeRights, singleStarts, singleLengths, unionStarts, unionLengths, words, tablesRegion, table}
+use Rattle.store.specs.Layout.{mirrorLength, syncFloor, propagated, trailLength, map, mode, singleCells, unionCells, disjunctionStarts, disjunctionSizes, nodeLefts, nodeRights, singleStarts, singleLengths, unionStarts, unionLengths, words, region, tablesRegion, table}
 use Rattle.store.specs.Limits.{cellRoom, mostDisjunctionSize}
 use Rattle.store.specs.Shape.{every, upTo, inRange, isCell, lies, spans, unionsFrom, spansSound, smaller, nodesSound, countsSound, soundShape, sameRow, listed, Ranged, Tabled, Sound}
 
@@ -193,6 +193,30 @@ module _ (s w : List ℕ) (e : area tablesRegion s ≡ area tablesRegion w) wher
         lefts = λ k. rw (same nodeLefts tt k) (h .lefts k);
         rights = λ k. rw (same nodeRights tt k) (h .rights k);
       }
+
+-- a number in range, written where no tie binds it, keeps a store sound
+abbrev pub countRegion : Area
+countRegion = region mirrorLength trailLength
+
+abbrev pub untied : Area → Bool
+untied b = apart map b && apart tablesRegion b && apart countRegion b
+
+pub sound-put : (b : Area) (m i x : ℕ) (w : List ℕ) → T (listed (b upto m) table) → T (untied b) → i < b .size → x ≤ m → Sound w → Sound (put b i x w)
+sound-put b m i x w t u h l s =
+    let p = both (apart map b && apart tablesRegion b) (apart countRegion b) (is-true (untied b) u) in
+    let q = both (apart map b) (apart tablesRegion b) (p .0) in
+    let counts = area-kept countRegion b i x w (rw (p .1) tt) h in
+    let floor = at-same syncFloor countRegion (put b i x w) w tt counts 0 in
+    let count = at-same trailLength countRegion (put b i x w) w tt counts 0 in
+    record {
+      long = rw (length-put b i x w) (s .long);
+      ranges = ranged-put b m i x w t h l (s .ranges);
+      cells = λ v. rw (at-kept map b i v x w (rw (q .0) tt) h) (s .cells v);
+      tables = tabled-same (put b i x w) w (area-kept tablesRegion b i x w (rw (q .1) tt) h) (s .tables);
+      floor-trail = rw (floor, count) (s .floor-trail);
+      floor-mirror = rw (floor, at-same mirrorLength countRegion (put b i x w) w tt counts 0) (s .floor-mirror);
+      index = rw (at-same propagated countRegion (put b i x w) w tt counts 0, count) (s .index);
+    }
 
 -- A FRESH STORE IS SOUND: every word but the mode is 0, and 0 passes every test
 module _ (w : List ℕ) (long : words ≤ length w) where

@@ -1,0 +1,17 @@
+use mathlib.Core.Path.{refl}
+use native.Mathlib.Omega.{arith}
+use Rattle.settings.proofs.FloatOrder.{order-eq, no-nan-bits}
+use Rattle.settings.proofs.activity.level.Statement.{statement}
+use Rattle.settings.proofs.activity.level.Tie as tie
+
+float-from-bits-result : tie.Need-float-from-bits-result
+float-from-bits-result c = no-nan-bits _ (omega arith)
+
+float-from-bits-result-2 : tie.Need-float-from-bits-result-2
+float-from-bits-result-2 c = no-nan-bits _ (omega arith)
+
+returns : tie.Need-returns
+returns c = (refl, order-eq _ _ (omega arith) (omega arith))
+
+pub level-spec : {M : Type 1} → statement M
+level-spec = tie.close (tie.spec float-from-bits-result float-from-bits-result-2 returns)

@@ -1,0 +1,75 @@
+// The settings of a store: each name's activity and whether it is hot, and the mode.
+ghost use mathlib.Core.Path.{_≡_};
+ghost use Rattle.settings.specs.Settings.{hotOut, hotStore, activityOut, activityStore, modeOut, modeStore, modeNow, nameNow};
+use store::shape;
+
+pub mod activity;
+pub mod tuning;
+
+// The answer of a call that changes a setting.
+pub enum Tuned {
+    Done,
+    Refused(u32),
+}
+
+pub enum Mode {
+    // 1 standard, 0 not.
+    Is(u32),
+    Refused(u32),
+}
+
+pub enum Name {
+    // The bits of its activity, and 1 if it is hot.
+    Is { activity: u32, hot: u32 },
+    Refused(u32),
+}
+
+// Makes a name hot, for good.
+pub fn mark_hot(s: &mut [u32], name: u32) -> Tuned
+    ensures { λ r. ⌜ (r ≡ hotOut (now (s .entry)) name) × (now (s .exit) ≡ hotStore (now (s .entry)) name) ⌝ }
+{
+    if shape::sound(s) {
+        return tuning::mark_hot(s, name);
+    }
+    Tuned::Refused(1)
+}
+
+// Gives a name an activity.
+pub fn set_activity(s: &mut [u32], name: u32, activity: f32) -> Tuned
+    ensures { λ r. ⌜ (r ≡ activityOut (now (s .entry)) name activity) × (now (s .exit) ≡ activityStore (now (s .entry)) name activity) ⌝ }
+{
+    if shape::sound(s) {
+        return tuning::set_activity(s, name, activity);
+    }
+    Tuned::Refused(1)
+}
+
+// Sets the mode: 1 standard, 0 not.
+pub fn set_mode(s: &mut [u32], mode: u32) -> Tuned
+    ensures { λ r. ⌜ (r ≡ modeOut (now (s .entry)) mode) × (now (s .exit) ≡ modeStore (now (s .entry)) mode) ⌝ }
+{
+    if shape::sound(s) {
+        return tuning::set_mode(s, mode);
+    }
+    Tuned::Refused(1)
+}
+
+// The mode.
+pub fn mode_of(s: &[u32]) -> Mode
+    ensures { λ r. ⌜ r ≡ modeNow (now (s .entry)) ⌝ }
+{
+    if shape::sound(s) {
+        return Mode::Is(store::read::mode(s));
+    }
+    Mode::Refused(1)
+}
+
+// A name's activity and whether it is hot.
+pub fn name_of(s: &[u32], name: u32) -> Name
+    ensures { λ r. ⌜ r ≡ nameNow (now (s .entry)) name ⌝ }
+{
+    if shape::sound(s) {
+        return tuning::name_of(s, name);
+    }
+    Name::Refused(1)
+}
