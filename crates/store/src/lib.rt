@@ -8,6 +8,7 @@ pub mod areas;
 pub mod fresh;
 pub mod lent;
 pub mod limits;
+pub mod ranks;
 pub mod read;
 pub mod shape;
 pub mod write;
