@@ -1,0 +1,9 @@
+pub mod BesideTables
+pub mod ConditionLoading
+pub mod DisjunctionLoading
+pub mod Kept
+pub mod Loading
+pub mod ReadBack
+pub mod SetLoading
+pub mod UnionLoading
+pub mod Views

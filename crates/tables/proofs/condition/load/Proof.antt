@@ -1,0 +1,45 @@
+use mathlib.Core.Path.{sym, _∙_}
+use borrow.Author.Needs.{needs}
+use Rattle.tables.proofs.Loading.{done-leaves, refused-leaves}
+use Rattle.tables.specs.Condition.{loadConditionInStore}
+use Rattle.tables.proofs.condition.load.Statement.{statement}
+use Rattle.tables.proofs.condition.load.Tie as tie
+
+load-case-requires : tie.Need-load-case-requires
+load-case-requires c κs = search needs
+
+enum-told : tie.Need-enum-told
+enum-told c = search needs
+
+put-node-requires : tie.Need-put-node-requires
+put-node-requires c κs = (c .before .before .before .before .before .before .pre .long, sym (c .before .before .before .load-case .ensures) ∙ c .before .enum-told .given .1)
+
+enum-told-2 : tie.Need-enum-told-2
+enum-told-2 c = search needs
+
+same-length : tie.Need-same-length
+same-length c = search needs
+
+returns : tie.Need-returns
+unfolding loadConditionInStore
+returns c = (c .before .before .before .before .before .before .load-case .ensures, c .before .before .put-node .ensures ∙ sym (done-leaves _ _ _ (sym (c .before .before .before .before .before .before .load-case .ensures) ∙ c .before .before .before .before .enum-told .given .1)))
+
+same-length-2 : tie.Need-same-length-2
+same-length-2 c = search needs
+
+returns-2 : tie.Need-returns-2
+unfolding loadConditionInStore
+returns-2 c = (c .before .before .load-case .ensures, sym (refused-leaves _ _ _ _ (sym (c .before .before .load-case .ensures) ∙ c .enum-told2 .given .1)))
+
+pub load-spec : {M : Type 1} → statement M
+load-spec =
+    tie.close
+    (tie.spec
+    load-case-requires
+    enum-told
+    put-node-requires
+    enum-told-2
+    same-length
+    returns
+    same-length-2
+    returns-2)

@@ -1,0 +1,59 @@
+-- Loading a disjunction: "disjunctions 128, with 1,024 literals together". "A literal is a variable and a sign."
+use mathlib.Core.Bool.{Bool, not, cond, _&&_, _||_}
+use mathlib.Core.List.{List, [], _∷_}
+use Prim.Native.Nat.{ℕ, _+_, _-_}
+use lib.Dec.{leb, ltb, eqb}
+use lib.ListN.{length}
+use Rattle.store.specs.Area.{at, putRun, Write, puts, write}
+use Rattle.store.specs.Layout.{disjunctionStarts, disjunctionSizes, literalCount, literalVariables, literalSigns}
+use Rattle.store.specs.Limits.{disjunctions, literalRoom, lastVariable}
+use Rattle.store.specs.Shape.{every, upTo, soundShape}
+use Rattle.tables.specs.Answer.{leaves, loaded}
+use Rattle.tables.specs.declared.Literals.{Literals}
+use Rattle.tables.specs.declared.Loaded.{Loaded}
+use Rattle.tables.specs.declared.Loaded.the-variants.{Done, Refused}
+
+-- a disjunction is loaded once its size is stored, an empty one too
+abbrev pub disjunctionLoaded : List ℕ → ℕ → Bool
+disjunctionLoaded w disjunction = loaded disjunctionSizes w disjunction
+
+-- where the literals of a disjunction begin, and how many there are: none where it is not loaded
+unfoldable pub literalsOf : List ℕ → ℕ → Literals
+literalsOf w disjunction = record { start = at disjunctionStarts disjunction w; count = at disjunctionSizes disjunction w - 1 }
+
+-- each literal has its variable and its sign: 0 plain, 1 negated
+unfoldable pub literalsFit : List ℕ → List ℕ → Bool
+literalsFit vs signs = eqb (length vs) (length signs) && every (upTo lastVariable) vs && every (upTo 1) signs
+
+-- on a store of sound shape: "an id is out of range" or "a sign is unknown" (2), "a disjunction is loaded twice" (12),
+-- "a size above would be exceeded" (3)
+unfoldable pub loadDisjunctionIn : List ℕ → ℕ → List ℕ → List ℕ → Loaded
+loadDisjunctionIn w disjunction vs signs =
+    cond (leb disjunctions disjunction || not (literalsFit vs signs)) (Refused 2)
+    (cond (disjunctionLoaded w disjunction) (Refused 12)
+    (cond (ltb literalRoom (at literalCount 0 w + length vs)) (Refused 3) Done))
+
+-- the literals go behind those that are there; a disjunction has one more than how many it has stored
+abbrev pub spanWrites : List ℕ → ℕ → ℕ → List Write
+spanWrites w disjunction n =
+    write disjunctionStarts disjunction (at literalCount 0 w)
+    ∷ write disjunctionSizes disjunction (n + 1)
+    ∷ write literalCount 0 (at literalCount 0 w + n)
+    ∷ []
+
+unfoldable pub literalsPut : List ℕ → ℕ → List ℕ → List ℕ → List ℕ
+literalsPut w disjunction vs signs =
+    putRun literalSigns (at literalCount 0 w) signs
+    (putRun literalVariables (at literalCount 0 w) vs
+    (puts (spanWrites w disjunction (length vs)) w))
+
+unfoldable pub loadDisjunctionInStore : List ℕ → ℕ → List ℕ → List ℕ → List ℕ
+loadDisjunctionInStore w disjunction vs signs =
+    leaves (loadDisjunctionIn w disjunction vs signs) (literalsPut w disjunction vs signs) w
+
+-- on any words
+unfoldable pub loadDisjunctionOut : List ℕ → ℕ → List ℕ → List ℕ → Loaded
+loadDisjunctionOut w disjunction vs signs = cond (soundShape w) (loadDisjunctionIn w disjunction vs signs) (Refused 1)
+
+unfoldable pub loadDisjunctionStore : List ℕ → ℕ → List ℕ → List ℕ → List ℕ
+loadDisjunctionStore w disjunction vs signs = cond (soundShape w) (loadDisjunctionInStore w disjunction vs signs) w

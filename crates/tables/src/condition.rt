@@ -1,0 +1,164 @@
+// Condition nodes in a store of sound shape. The layers above, which have tested the shape, call these.
+ghost use mathlib.Core.Path.{_≡_};
+ghost use Prim.Native.Nat.{_≤_, _<_};
+ghost use lib.ListN.{length};
+ghost use Rattle.store.specs.Layout.{words};
+ghost use Rattle.store.specs.Limits.{nodes, lastWord};
+ghost use Rattle.store.specs.Shape.{Sound};
+ghost use Rattle.tables.specs.Condition.{nodeLoaded, nodeAs, nodeOf, leafIn, branchIn, loadConditionIn, leafed, branched, nodePut, loadConditionInStore};
+ghost use Rattle.tables.specs.declared.Loaded.the-variants.{Done};
+use crate::Loaded;
+use crate::Node;
+use crate::version_set;
+use store::limits;
+use store::read;
+use store::wide;
+use store::write;
+
+// Whether a condition node is loaded; a number out of range never is.
+pub fn node_loaded(s: &[u32], node: u32) -> bool
+    requires { ⌜ words ≤ length (now s) ⌝ }
+    ensures { λ r. ⌜ r ≡ nodeLoaded (now (s .entry)) node ⌝ }
+{
+    if node < limits::NODES as u32 {
+        return 0 < read::node_kind(s, wide(node));
+    }
+    false
+}
+
+// The node that its words say. A branch without one of its children is missing, so a child is always smaller than its node.
+fn node_as(kind: u32, set: u32, left: u32, right: u32) -> Node
+    ensures { λ r. ⌜ r ≡ nodeAs kind set left right ⌝ }
+{
+    if kind == 1 {
+        return Node::Leaf(set);
+    }
+    if left == 0 {
+        return Node::Missing;
+    }
+    if right == 0 {
+        return Node::Missing;
+    }
+    if kind == 2 {
+        return Node::And(left - 1, right - 1);
+    }
+    if kind == 3 {
+        return Node::Or(left - 1, right - 1);
+    }
+    Node::Missing
+}
+
+// What a condition node is; a number out of range is missing.
+pub fn node_of(s: &[u32], node: u32) -> Node
+    requires { ⌜ words ≤ length (now s) ⌝ }
+    ensures { λ r. ⌜ r ≡ nodeOf (now (s .entry)) node ⌝ }
+{
+    if limits::NODES as u32 <= node {
+        return Node::Missing;
+    }
+    let kind = read::node_kind(s, wide(node));
+    let set = read::node_set(s, wide(node));
+    let left = read::node_left(s, wide(node));
+    let right = read::node_right(s, wide(node));
+    node_as(kind, set, left, right)
+}
+
+// What loading a leaf would answer.
+fn leaf_case(s: &[u32], node: u32, set: u32) -> Loaded
+    requires { ⌜ words ≤ length (now s) ⌝ }
+    ensures { λ r. ⌜ r ≡ leafIn (now (s .entry)) node set ⌝ }
+{
+    if limits::NODES as u32 <= node {
+        return Loaded::Refused(2);
+    }
+    if version_set::set_loaded(s, set) {} else {
+        return Loaded::Refused(2);
+    }
+    if node_loaded(s, node) {
+        return Loaded::Refused(12);
+    }
+    Loaded::Done
+}
+
+// What loading a branch would answer.
+fn branch_case(s: &[u32], node: u32, left: u32, right: u32) -> Loaded
+    requires { ⌜ words ≤ length (now s) ⌝ }
+    ensures { λ r. ⌜ r ≡ branchIn (now (s .entry)) node left right ⌝ }
+{
+    if limits::NODES as u32 <= node {
+        return Loaded::Refused(2);
+    }
+    if node_loaded(s, left) {} else {
+        return Loaded::Refused(2);
+    }
+    if node_loaded(s, right) {} else {
+        return Loaded::Refused(2);
+    }
+    if node <= left {
+        return Loaded::Refused(11);
+    }
+    if node <= right {
+        return Loaded::Refused(11);
+    }
+    if node_loaded(s, node) {
+        return Loaded::Refused(12);
+    }
+    Loaded::Done
+}
+
+// What loading would answer.
+fn load_case(s: &[u32], node: u32, kind: u32, left: u32, right: u32) -> Loaded
+    requires { ⌜ words ≤ length (now s) ⌝ }
+    ensures { λ r. ⌜ r ≡ loadConditionIn (now (s .entry)) node kind left right ⌝ }
+{
+    if 2 < kind {
+        return Loaded::Refused(2);
+    }
+    if kind == 0 {
+        return leaf_case(s, node, left);
+    }
+    branch_case(s, node, left, right)
+}
+
+// Writes a leaf.
+fn put_leaf(s: &mut [u32], node: u32, set: u32)
+    requires { ⌜ (words ≤ length (now s)) × (node < nodes) ⌝ }
+    ensures { λ _. ⌜ now (s .exit) ≡ leafed (now (s .entry)) node set ⌝ }
+{
+    write::node_kind(s, wide(node), 1);
+    write::node_set(s, wide(node), set);
+}
+
+// Writes a branch.
+fn put_branch(s: &mut [u32], node: u32, kind: u32, left: u32, right: u32)
+    requires { ⌜ (words ≤ length (now s)) × (node < nodes) × (kind < lastWord) × (left < lastWord) × (right < lastWord) ⌝ }
+    ensures { λ _. ⌜ now (s .exit) ≡ branched (now (s .entry)) node kind left right ⌝ }
+{
+    write::node_kind(s, wide(node), kind + 1);
+    write::node_left(s, wide(node), left + 1);
+    write::node_right(s, wide(node), right + 1);
+}
+
+// Writes a node.
+fn put_node(s: &mut [u32], node: u32, kind: u32, left: u32, right: u32)
+    requires { ⌜ (words ≤ length (now s)) × (loadConditionIn (now s) node kind left right ≡ Done) ⌝ }
+    ensures { λ _. ⌜ now (s .exit) ≡ nodePut (now (s .entry)) node kind left right ⌝ }
+{
+    if kind == 0 {
+        put_leaf(s, node, left);
+        return;
+    }
+    put_branch(s, node, kind, left, right);
+}
+
+pub fn load(s: &mut [u32], node: u32, kind: u32, left: u32, right: u32) -> Loaded
+    requires { ⌜ Sound (now s) ⌝ }
+    ensures { λ r. ⌜ (r ≡ loadConditionIn (now (s .entry)) node kind left right) × (now (s .exit) ≡ loadConditionInStore (now (s .entry)) node kind left right) ⌝ }
+{
+    let r = load_case(s, node, kind, left, right);
+    match r {
+        Loaded::Done => put_node(s, node, kind, left, right),
+        Loaded::Refused(_) => {}
+    }
+    r
+}
