@@ -1,0 +1,10 @@
+pub mod Adding
+pub mod Copying
+pub mod Holding
+pub mod Kept
+pub mod ListLaws
+pub mod ListParts
+pub mod Loading
+pub mod Parts
+pub mod Spans
+pub mod Views

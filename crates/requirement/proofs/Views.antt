@@ -1,0 +1,88 @@
+-- The lists as they are looked up: what makes them the lent ones, and what keeps them. Assumes nothing.
+use mathlib.Core.Bool.{Bool, true, false, cond}
+use mathlib.Core.List.{List, [], _∷_}
+use mathlib.Core.Path.{_≡_, refl, sym, _∙_}
+use Prim.Native.Nat.{ℕ, zero, suc, _+_, _≤_, _<_}
+use native.Mathlib.Nat.{add-zero}
+use native.Mathlib.Omega.{arith}
+use lib.Dec.{eqb}
+use lib.ListN.{length, getD, take, drop, take-append-drop, length-drop}
+use lib.Seq.{getD-drop, length-take-le}
+use Rattle.requirement.proofs.ListParts.{same-run, run-is}
+use Rattle.requirement.specs.Copy.{lens, joined}
+use Rattle.requirement.specs.Load.{total, cut}
+use Rattle.requirement.specs.Tables.{setCount, listCount, cellsOf, listsFrom}
+use Rattle.store.proofs.AreaLaws.{length-area}
+use Rattle.store.specs.Area.{area, at}
+use Rattle.store.specs.Layout.{tablesLoaded, listStarts, listLengths, candidates, words}
+use Rattle.store.specs.Limits.{cellRoom}
+
+-- the cells of a list, place by place
+pub cells-are : (s : List ℕ) (slot n place : ℕ) (cs : List ℕ) → words ≤ length s → n ≤ length cs → place + n ≤ cellRoom → at listStarts slot s ≡ place → at listLengths slot s ≡ n → ((i : ℕ) → i < n → at candidates (place + i) s ≡ getD cs i 0) → cellsOf s slot ≡ take n cs
+unfolding cellsOf at
+cells-are s slot n place cs long k room e f h = rw (e, f) (run-is n place (area candidates s) cs k (rw (length-area candidates s (omega arith)) room) h)
+
+pub cells-kept : (w s : List ℕ) (slot : ℕ) → words ≤ length w → length s ≡ length w → at listStarts slot s ≡ at listStarts slot w → at listLengths slot s ≡ at listLengths slot w → ((i : ℕ) → i < at listLengths slot w → at candidates (at listStarts slot w + i) s ≡ at candidates (at listStarts slot w + i) w) → cellsOf s slot ≡ cellsOf w slot
+unfolding cellsOf at
+cells-kept w s slot long size e f h =
+    rw (e, f)
+    (same-run _ _ (area candidates s) (area candidates w) (length-area candidates s (omega arith) ∙ sym (length-area candidates w (omega arith))) h)
+
+pub lists-kept : (w s : List ℕ) (slot n : ℕ) → ((j : ℕ) → j < n → cellsOf s (slot + j) ≡ cellsOf w (slot + j)) → listsFrom s slot n ≡ listsFrom w slot n
+unfolding listsFrom
+lists-kept w s slot zero f = refl
+lists-kept w s slot (suc n) f =
+    let a : cellsOf s slot ≡ cellsOf w slot = rw (add-zero slot) at (f 0 (omega arith)) in
+    let b =
+    lists-kept w s (slot + 1) n
+    (λ j h.
+    let e : slot + 1 + j ≡ slot + suc j = omega arith in
+    rw e (f (suc j) (omega arith))) in
+    rw (a, b)
+
+-- lists that lie one after the other are the cut of their cells
+pub lists-are : (s : List ℕ) (slot place : ℕ) (ls cs : List ℕ) → words ≤ length s → total ls ≡ length cs → place + length cs ≤ cellRoom → ((j : ℕ) → j < length ls → at listStarts (slot + j) s ≡ place + total (take j ls)) → ((j : ℕ) → j < length ls → at listLengths (slot + j) s ≡ getD ls j 0) → ((i : ℕ) → i < length cs → at candidates (place + i) s ≡ getD cs i 0) → listsFrom s slot (length ls) ≡ cut ls cs
+unfolding listsFrom cut total
+lists-are s slot place [] cs long sum room f g h = refl
+lists-are s slot place (n ∷ ns) cs long sum room f g h =
+    let shorter = length-drop n cs in
+    let first = cells-are s slot n place cs long (omega arith) (omega arith) (rw (add-zero slot, add-zero place) at (f 0 (omega arith))) (rw (add-zero slot) at (g 0 (omega arith))) (λ i k. h i (omega arith)) in
+    let rest =
+    lists-are s (slot + 1) (place + n) ns (drop n cs) long (omega arith) (omega arith)
+    (λ j k.
+    let e : slot + 1 + j ≡ slot + suc j = omega arith in
+    let z : place + n + total (take j ns) ≡ place + (n + total (take j ns)) = omega arith in
+    rw (e, z) (f (suc j) (omega arith)))
+    (λ j k.
+    let e : slot + 1 + j ≡ slot + suc j = omega arith in
+    rw e (g (suc j) (omega arith)))
+    (λ i k.
+    let e : place + n + i ≡ place + (n + i) = omega arith in
+    rw (e, getD-drop n cs i 0) (h (n + i) (omega arith))) in
+    rw (first, rest)
+
+-- a list of a requirement is of one of its version sets
+pub listed-sets : (w : List ℕ) (key j : ℕ) → j < listCount w key → j < setCount w key
+unfolding listCount
+listed-sets w key j h = go (eqb (at tablesLoaded key w) 0) h
+  where
+    go : (b : Bool) → j < cond b 0 (setCount w key) → j < setCount w key
+    go true h = absurd (omega arith)
+    go false h = h
+
+-- a cut has the lengths that it was made by, and all of the cells
+pub lens-cut : (ls cs : List ℕ) → total ls ≡ length cs → lens (cut ls cs) ≡ ls
+unfolding lens cut total
+lens-cut [] cs e = refl
+lens-cut (n ∷ ns) cs e =
+    let a = length-take-le n cs (omega arith) in
+    let b = lens-cut ns (drop n cs) (rw (length-drop n cs) (omega arith)) in
+    rw (a, b)
+
+pub joined-cut : (ls cs : List ℕ) → total ls ≡ length cs → joined (cut ls cs) ≡ cs
+unfolding joined cut total
+joined-cut [] [] e = refl
+joined-cut [] (c ∷ cs) e = absurd (omega arith)
+joined-cut (n ∷ ns) cs e =
+    let b = joined-cut ns (drop n cs) (rw (length-drop n cs) (omega arith)) in
+    rw b (take-append-drop n cs)

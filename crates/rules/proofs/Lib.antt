@@ -1,0 +1,17 @@
+pub mod Bools
+pub mod Ranks
+pub mod Same
+pub mod Hold
+pub mod Move
+pub mod Kept
+pub mod Demand
+pub mod Modes
+pub mod Edges
+pub mod Nothing
+pub mod Map
+pub mod Drops
+pub mod Sweeps
+pub mod Position
+pub mod Order
+pub mod Placing
+pub mod Agreeing

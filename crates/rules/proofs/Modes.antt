@@ -1,0 +1,170 @@
+-- Where no open clause is dead and every cold name's activity is zero, both modes answer the same.
+-- Assumes nothing.
+use mathlib.Core.Path.{_≡_, refl, sym}
+use mathlib.Core.Bool.{Bool, true, false, not, _&&_, _||_, false≢true}
+use mathlib.Core.List.{List, [], _∷_}
+use mathlib.Core.Logic.{_⊎_, inl, inr}
+use Prim.Native.Nat.{ℕ, zero, suc, _≤_, _<_, max}
+use native.Mathlib.Omega.{arith}
+use native.Mathlib.Decide.{decLe}
+use lib.Dec.{T, eqb, eqb→eq, eqb-refl, ltb, ltb→lt}
+use Rattle.rules.specs.Walk.{ranks, Value, CandidateList, Found, At, Nowhere, firstTrue, firstUndecided, countUndecided, flattened, frontier, orElse, orNext, State, Satisfied, Frontier, Dead, evaluate, Seen, Shut, Open, Gone, seenAs, Environment, active, anyHot, isHot, largest, look, Best, best, stops, passedOver, better, Choose, walkFrom, walkOn, walk, member, mode, named}
+use Rattle.rules.proofs.Bools.{or-cases, or-inl, or-inr, or-right}
+use Rattle.rules.proofs.Ranks.{member-head, member-tail, ranks-below}
+
+-- the name of a frontier is one of its requirement's names
+
+frontier-name : (a : ℕ → Value) (cs : List CandidateList) (x n m : ℕ) → frontier a cs ≡ Frontier x n m → T (named n cs)
+unfolding frontier named
+frontier-name a [] x n m h = absurd (false≢true (cc))
+frontier-name a (c ∷ cs) x n m h = go (firstUndecided a (c .candidates)) h (frontier-name a cs x n m)
+  where
+    go : (f : Found) → orNext f (c .name) (countUndecided a (c .candidates)) (frontier a cs) ≡ Frontier x n m → (frontier a cs ≡ Frontier x n m → T (named n cs)) → T (eqb n (c .name) || named n cs)
+    go (At y) q ih = or-inl (eqb n (c .name)) (named n cs) (let z : c .name ≡ n = cc in rw z (eqb-refl n))
+    go Nowhere q ih = or-inr (eqb n (c .name)) (named n cs) (ih q)
+
+look-name : (e : Environment) (a : ℕ → Value) (k x n m : ℕ) → look e a k ≡ Open x n m → T (named n (e .lists (e .requirement k)))
+unfolding look evaluate
+look-name e a k x n m h = go (active e a k) (firstTrue a (flattened (e .lists (e .requirement k)))) h
+  where
+    cs : List CandidateList
+    cs = e .lists (e .requirement k)
+
+    back : (u : State) → seenAs u ≡ Open x n m → u ≡ Frontier x n m
+    back (Satisfied y) q = cc
+    back (Frontier y i j) q = cc
+    back Dead q = cc
+
+    go : (b : Bool) (f : Found) → _≡_ {A = Seen} (elim b [ true ↦ seenAs (orElse f (frontier a cs)) | false ↦ Shut ]) (Open x n m) → T (named n cs)
+    go false f q = absurd (false≢true (cc))
+    go true (At y) q = absurd (false≢true (cc))
+    go true Nowhere q = frontier-name a cs x n m (back (frontier a cs) q)
+
+cold-name : (h : ℕ → Bool) (cs : List CandidateList) (n : ℕ) → anyHot h cs ≡ false → T (named n cs) → h n ≡ false
+unfolding anyHot named
+cold-name h [] n p t = absurd t
+cold-name h (c ∷ cs) n p t = go (h (c .name)) refl p (or-cases (eqb n (c .name)) (named n cs) t) (cold-name h cs n)
+  where
+    go : (b : Bool) → h (c .name) ≡ b → b || anyHot h cs ≡ false → T (eqb n (c .name)) ⊎ T (named n cs) → (anyHot h cs ≡ false → T (named n cs) → h n ≡ false) → h n ≡ false
+    go true q r o ih = absurd (false≢true (sym r))
+    go false q r (inl o) ih = rw (eqb→eq n (c .name) o) q
+    go false q r (inr o) ih = ih r o
+
+top-max : (f : ℕ → ℕ) (n i : ℕ) → i < n → f i ≤ largest f n
+unfolding largest
+top-max f zero i h = omega arith
+top-max f (suc n) i h = go (decLe (suc i) n) (top-max f n i)
+  where
+    go : Dec (i < n) → (i < n → f i ≤ largest f n) → f i ≤ max (largest f n) (f n)
+    go (yes p) ih = let q = ih p in omega arith
+    go (no p) ih = let z : i ≡ n = omega arith in rw z (let q : f n ≤ max (largest f n) (f n) = omega arith in q)
+
+-- what does not rise above the best does not replace it
+no-better : (b d : Best) → d .activity ≤ b .activity → better b d ≡ b
+no-better b d h = go (ltb (b .activity) (d .activity)) (ltb (d .count) (b .count)) refl
+  where
+    go : (p q : Bool) → ltb (b .activity) (d .activity) ≡ p → _≡_ {A = Best} (elim (p && q) [ true ↦ d | false ↦ b ]) b
+    go true q r = absurd (let z : b .activity < d .activity = ltb→lt (b .activity) (d .activity) (rw r tt) in omega arith)
+    go false q r = refl
+
+module _ (e : Environment) (a : ℕ → Value) (alive : (k : ℕ) → k < e .size → look e a k ≡ Gone → ⊥)
+    (cold : (n : ℕ) → e .hot n ≡ false → e .activity n ≡ 0)
+    (range : (k n : ℕ) → k < e .size → T (named n (e .lists (e .requirement k))) → n < e .names) where
+  abbrev All : List ℕ → Type 0
+  All ks = (k : ℕ) → T (member k ks) → k < e .size
+
+  all-tail : (k : ℕ) (ks : List ℕ) → All (k ∷ ks) → All ks
+  all-tail k ks h j t = h j (member-tail j k ks t)
+
+  all-head : (k : ℕ) (ks : List ℕ) → All (k ∷ ks) → k < e .size
+  all-head k ks h = h k (member-head k ks)
+
+  look-mode : (b : Bool) (k : ℕ) → look (mode e b) a k ≡ look e a k
+  unfolding look
+  look-mode b k = refl
+
+  at-most-top : (k x n m : ℕ) → k < e .size → look e a k ≡ Open x n m → e .activity n ≤ largest (e .activity) (e .names)
+  at-most-top k x n m t h = top-max (e .activity) (e .names) n (range k n t (look-name e a k x n m h))
+
+  cold-zero : (k x n m : ℕ) → isHot e k ≡ false → look e a k ≡ Open x n m → e .activity n ≡ 0
+  cold-zero k x n m c h = cold n (cold-name (e .hot) (e .lists (e .requirement k)) n c (look-name e a k x n m h))
+
+  -- a best of the largest activity stays, in the mode that goes on
+  stays : (b : Best) (ks : List ℕ) → All ks → b .activity ≡ largest (e .activity) (e .names) → walkOn (mode e false) a b ks ≡ Choose b
+  unfolding walkOn
+  stays b [] all h = refl
+  stays b (k ∷ ks) all h = on-stop (stops (mode e false) b) refl (stays b ks (all-tail k ks all) h)
+    where
+      on-seen : (v : Seen) → look e a k ≡ v → stops (mode e false) b ≡ false → passedOver (mode e false) b k ≡ false → walkOn (mode e false) a b ks ≡ Choose b → walkOn (mode e false) a b (k ∷ ks) ≡ Choose b
+      on-seen Shut q s p ih = rw (s, p, look-mode false k, q, walkOn) ih
+      on-seen (Open x n m) q s p ih =
+          rw (s, p, look-mode false k, q, no-better b (best e k x n m) (omega (arith, at-most-top k x n m (all-head k ks all) q)), walkOn) ih
+      on-seen Gone q s p ih = absurd (alive k (all-head k ks all) q)
+
+      on-passed : (c : Bool) → passedOver (mode e false) b k ≡ c → stops (mode e false) b ≡ false → walkOn (mode e false) a b ks ≡ Choose b → walkOn (mode e false) a b (k ∷ ks) ≡ Choose b
+      on-passed true p s ih = rw (s, p, walkOn) ih
+      on-passed false p s ih = on-seen (look e a k) refl s p ih
+
+      on-stop : (c : Bool) → stops (mode e false) b ≡ c → walkOn (mode e false) a b ks ≡ Choose b → walkOn (mode e false) a b (k ∷ ks) ≡ Choose b
+      on-stop true s ih = rw (s, walkOn)
+      on-stop false s ih = on-passed (passedOver (mode e false) b k) refl s ih
+
+  module _ (b : Best) (k : ℕ) (ks : List ℕ) (all : All (k ∷ ks))
+      (ih : (b : Best) → walkOn (mode e true) a b ks ≡ walkOn (mode e false) a b ks) where
+    abbrev Same : Type 0
+    Same = walkOn (mode e true) a b (k ∷ ks) ≡ walkOn (mode e false) a b (k ∷ ks)
+
+    cold-seen : (v : Seen) → look e a k ≡ v → isHot e k ≡ false → stops (mode e true) b ≡ false → stops (mode e false) b ≡ false → passedOver (mode e true) b k ≡ true → passedOver (mode e false) b k ≡ false → Same
+    unfolding walkOn
+    cold-seen Shut q c s t p r = rw (s, t, p, r, look-mode false k, q, walkOn) (ih b)
+    cold-seen (Open x n m) q c s t p r =
+        rw (s, t, p, r, look-mode false k, q, no-better b (best e k x n m) (omega (arith, cold-zero k x n m c q)), walkOn) (ih b)
+    cold-seen Gone q c s t p r = absurd (alive k (all-head k ks all) q)
+
+    hot-seen : (v : Seen) → look e a k ≡ v → stops (mode e true) b ≡ false → stops (mode e false) b ≡ false → passedOver (mode e true) b k ≡ false → passedOver (mode e false) b k ≡ false → Same
+    unfolding walkOn
+    hot-seen Shut q s t p r = rw (s, t, p, r, look-mode false k, look-mode true k, q, walkOn) (ih b)
+    hot-seen (Open x n m) q s t p r =
+        rw (s, t, p, r, look-mode false k, look-mode true k, q, walkOn) (ih (better b (best e k x n m)))
+    hot-seen Gone q s t p r = rw (s, t, p, r, look-mode false k, look-mode true k, q, walkOn)
+
+    on-shield : (h s : Bool) → isHot e k ≡ h → eqb (e .parent (b .clause)) 0 && not (eqb (e .parent k) 0) ≡ s → stops (mode e true) b ≡ false → stops (mode e false) b ≡ false → Same
+    unfolding walkOn
+    on-shield h true p q t u =
+        let i : passedOver (mode e true) b k ≡ true = or-right (not (isHot e k)) _ q in
+        let j : passedOver (mode e false) b k ≡ true = rw q in
+        rw (t, u, i, j, walkOn) (ih b)
+    on-shield true false p q t u = hot-seen (look e a k) refl t u (rw (p, q)) (rw q)
+    on-shield false false p q t u = cold-seen (look e a k) refl p t u (rw p) (rw q)
+
+    on-tests : (c t : Bool) → eqb (b .count) 1 ≡ c → eqb (b .activity) (largest (e .activity) (e .names)) ≡ t → Same
+    unfolding walkOn
+    on-tests true t p q =
+        let i : stops (mode e true) b ≡ true = rw p in
+        let j : stops (mode e false) b ≡ true = rw p in
+        rw (i, j, walkOn)
+    on-tests false true p q =
+        let i : stops (mode e true) b ≡ true = rw (p, q) in
+        rw (i, walkOn) (sym (stays b (k ∷ ks) all (eqb→eq (b .activity) (largest (e .activity) (e .names)) (rw q tt))))
+    on-tests false false p q =
+        on-shield (isHot e k) (eqb (e .parent (b .clause)) 0 && not (eqb (e .parent k) 0)) refl refl (rw (p, q)) (rw p)
+
+  modes-on : (b : Best) (ks : List ℕ) → All ks → walkOn (mode e true) a b ks ≡ walkOn (mode e false) a b ks
+  unfolding walkOn
+  modes-on b [] all = refl
+  modes-on b (k ∷ ks) all =
+      on-tests b k ks all (λ b′. modes-on b′ ks (all-tail k ks all)) (eqb (b .count) 1)
+      (eqb (b .activity) (largest (e .activity) (e .names))) refl refl
+
+  modes-from : (ks : List ℕ) → All ks → walkFrom (mode e true) a ks ≡ walkFrom (mode e false) a ks
+  unfolding walkFrom
+  modes-from [] all = refl
+  modes-from (k ∷ ks) all = go (look e a k) refl (modes-from ks (all-tail k ks all))
+    where
+      go : (v : Seen) → look e a k ≡ v → walkFrom (mode e true) a ks ≡ walkFrom (mode e false) a ks → walkFrom (mode e true) a (k ∷ ks) ≡ walkFrom (mode e false) a (k ∷ ks)
+      go Shut q ih = rw (look-mode true k, look-mode false k, q, walkFrom) ih
+      go (Open x n m) q ih = rw (look-mode true k, look-mode false k, q, walkFrom) (modes-on (best e k x n m) ks (all-tail k ks all))
+      go Gone q ih = rw (look-mode true k, look-mode false k, q, walkFrom)
+
+  pub modes : walk (mode e true) a ≡ walk (mode e false) a
+  modes = modes-from (ranks (e .size)) (ranks-below (e .size))

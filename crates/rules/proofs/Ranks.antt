@@ -1,0 +1,62 @@
+-- Members of lists; the ranks of n clauses are the numbers below n, each once. Assumes nothing.
+use mathlib.Core.Path.{_≡_, refl}
+use mathlib.Core.Bool.{Bool, true, false, _||_}
+use mathlib.Core.List.{List, [], _∷_}
+use mathlib.Core.Logic.{_⊎_, inl, inr}
+use Prim.Native.Nat.{ℕ, zero, suc, _+_, _≤_, _<_}
+use native.Mathlib.Omega.{arith}
+use native.Mathlib.Decide.{decLe}
+use lib.Dec.{T, eqb, eqb→eq, eqb-refl}
+use Rattle.rules.specs.Walk.{member, ranksFrom, ranks}
+use Rattle.rules.proofs.Bools.{or-cases, or-inl, or-inr}
+
+pub member-head : (v : ℕ) (vs : List ℕ) → T (member v (v ∷ vs))
+unfolding member
+member-head v vs = or-inl (eqb v v) (member v vs) (eqb-refl v)
+
+pub member-tail : (v x : ℕ) (vs : List ℕ) → T (member v vs) → T (member v (x ∷ vs))
+unfolding member
+member-tail v x vs t = or-inr (eqb v x) (member v vs) t
+
+pub not-member : (x : ℕ) (xs : List ℕ) → (T (member x xs) → ⊥) → member x xs ≡ false
+not-member x xs h = go (member x xs) h
+  where
+    go : (b : Bool) → (T b → ⊥) → b ≡ false
+    go true q = absurd (q tt)
+    go false q = refl
+
+from-within : (i n k : ℕ) → T (member k (ranksFrom i n)) → (i ≤ k) × (k < i + n)
+unfolding ranksFrom member
+from-within i zero k t = absurd t
+from-within i (suc n) k t = go (or-cases (eqb k i) (member k (ranksFrom (suc i) n)) t) (from-within (suc i) n k)
+  where
+    go : T (eqb k i) ⊎ T (member k (ranksFrom (suc i) n)) → (T (member k (ranksFrom (suc i) n)) → (suc i ≤ k) × (k < suc i + n)) → (i ≤ k) × (k < i + suc n)
+    go (inl o) ih = let q : k ≡ i = eqb→eq k i o in (omega arith, omega arith)
+    go (inr o) ih = let q = ih o in let a : suc i ≤ k = q .0 in let b : k < suc i + n = q .1 in (omega arith, omega arith)
+
+within-from : (i n k : ℕ) → i ≤ k → k < i + n → T (member k (ranksFrom i n))
+unfolding ranksFrom member
+within-from i zero k a b = absurd (let z : ⊥ = omega arith in z)
+within-from i (suc n) k a b = go (decLe (suc i) k) (within-from (suc i) n k)
+  where
+    go : Dec (i < k) → (suc i ≤ k → k < suc i + n → T (member k (ranksFrom (suc i) n))) → T (eqb k i || member k (ranksFrom (suc i) n))
+    go (yes p) ih = or-inr (eqb k i) (member k (ranksFrom (suc i) n)) (ih p (omega arith))
+    go (no p) ih = or-inl (eqb k i) (member k (ranksFrom (suc i) n)) (let z : k ≡ i = omega arith in rw z (eqb-refl i))
+
+pub ranks-below : (n k : ℕ) → T (member k (ranks n)) → k < n
+ranks-below n k t = let q : k < 0 + n = from-within 0 n k t .1 in omega arith
+
+pub below-ranks : (n k : ℕ) → k < n → T (member k (ranks n))
+below-ranks n k h = within-from 0 n k (omega arith) (omega arith)
+
+abbrev pub Once : List ℕ → Type 0
+Once [] = Unit {0}
+Once (k ∷ ks) = (member k ks ≡ false) × Once ks
+
+from-once : (i n : ℕ) → Once (ranksFrom i n)
+unfolding ranksFrom
+from-once i zero = tt
+from-once i (suc n) = (not-member i (ranksFrom (suc i) n) (λ t. let q : suc i ≤ i = from-within (suc i) n i t .0 in omega arith), from-once (suc i) n)
+
+pub ranks-once : (n : ℕ) → Once (ranks n)
+ranks-once n = from-once 0 n
