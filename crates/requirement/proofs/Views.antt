@@ -2,20 +2,22 @@
 use mathlib.Core.Bool.{Bool, true, false, cond}
 use mathlib.Core.List.{List, [], _∷_}
 use mathlib.Core.Path.{_≡_, refl, sym, _∙_}
-use Prim.Native.Nat.{ℕ, zero, suc, _+_, _≤_, _<_}
+use Prim.Native.Nat.{ℕ, zero, suc, _+_, _-_, _≤_, _<_}
 use native.Mathlib.Nat.{add-zero}
 use native.Mathlib.Omega.{arith}
-use lib.Dec.{eqb}
+use borrow.Author.Tests.{ltb-true}
+use lib.Dec.{ltb, eqb}
 use lib.ListN.{length, getD, take, drop, take-append-drop, length-drop}
 use lib.Seq.{getD-drop, length-take-le}
 use Rattle.requirement.proofs.ListParts.{same-run, run-is}
 use Rattle.requirement.specs.Copy.{lens, joined}
 use Rattle.requirement.specs.Load.{total, cut}
-use Rattle.requirement.specs.Tables.{setCount, listCount, cellsOf, listsFrom}
+use Rattle.requirement.specs.Tables.{setCount, listCount, setOf, cellsOf, listsFrom}
 use Rattle.store.proofs.AreaLaws.{length-area}
 use Rattle.store.specs.Area.{area, at}
-use Rattle.store.specs.Layout.{tablesLoaded, listStarts, listLengths, candidates, words}
-use Rattle.store.specs.Limits.{cellRoom}
+use Rattle.store.specs.Layout.{unionSets, tablesLoaded, listStarts, listLengths, candidates, words}
+use Rattle.store.specs.Limits.{versionSets, cellRoom, lastVersionSet}
+use Rattle.store.specs.Shape.{Sound}
 
 -- the cells of a list, place by place
 pub cells-are : (s : List ℕ) (slot n place : ℕ) (cs : List ℕ) → words ≤ length s → n ≤ length cs → place + n ≤ cellRoom → at listStarts slot s ≡ place → at listLengths slot s ≡ n → ((i : ℕ) → i < n → at candidates (place + i) s ≡ getD cs i 0) → cellsOf s slot ≡ take n cs
@@ -86,3 +88,12 @@ joined-cut [] (c ∷ cs) e = absurd (omega arith)
 joined-cut (n ∷ ns) cs e =
     let b = joined-cut ns (drop n cs) (rw (length-drop n cs) (omega arith)) in
     rw b (take-append-drop n cs)
+
+-- the version set of a list is one, on a store of sound shape
+pub set-below : (w : List ℕ) (slot x : ℕ) → Sound w → x ≡ setOf w slot → x < versionSets
+unfolding setOf
+set-below w slot x h e = rw e (go (ltb slot versionSets) refl)
+  where
+    go : (b : Bool) → ltb slot versionSets ≡ b → cond b slot (at unionSets (slot - versionSets) w) < versionSets
+    go true q = ltb-true slot versionSets q
+    go false q = let m = h .ranges unionSets lastVersionSet tt (slot - versionSets) in omega arith

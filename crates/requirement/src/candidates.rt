@@ -11,7 +11,7 @@ ghost use Rattle.store.specs.Shape.{lies, Sound};
 ghost use Rattle.requirement.specs.Copy.{tabled, lens, joined, copyIn, copyInLengths, copyInCells};
 ghost use Rattle.requirement.specs.Load.{adds, total, known, fitting, Roomy, loadIn, putLists, tableAt, loadedSingle, loadedUnion, loaded, loadInStore};
 ghost use Rattle.requirement.specs.Part.{inPart, partOf, Named, singleArea, unionArea, areaFrom, areaTo, placeOf};
-ghost use Rattle.requirement.specs.Tables.{requirementOf, keyOf, keyAt, firstSlot, setCount, listCount, cellsOf, listsFrom};
+ghost use Rattle.requirement.specs.Tables.{requirementOf, keyOf, keyAt, firstSlot, setCount, setOf, nameOf, listCount, cellsOf, listsFrom};
 use crate::Copied;
 use crate::Loaded;
 use crate::Requirement;
@@ -98,6 +98,30 @@ fn set_count(s: &[u32], key: usize) -> usize
         return 1;
     }
     let stored = wide(read::union_size(s, key - limits::VERSION_SETS));
+    if stored == 0 {
+        return 0;
+    }
+    stored - 1
+}
+
+// The version set of a list.
+pub fn set_at(s: &[u32], slot: usize) -> usize
+    requires { ⌜ (words ≤ length (now s)) × (slot < lists) ⌝ }
+    ensures { λ r. ⌜ r ≡ setOf (now (s .entry)) slot ⌝ }
+{
+    if slot < limits::VERSION_SETS {
+        return slot;
+    }
+    wide(read::union_set(s, slot - limits::VERSION_SETS))
+}
+
+// The name of a list's version set.
+pub fn name_at(s: &[u32], slot: usize) -> u32
+    requires { ⌜ Sound (now s) ⌝ }
+    requires { ⌜ slot < lists ⌝ }
+    ensures { λ r. ⌜ r ≡ nameOf (now (s .entry)) (setOf (now (s .entry)) slot) ⌝ }
+{
+    let stored = read::set_name(s, set_at(s, slot));
     if stored == 0 {
         return 0;
     }
