@@ -79,7 +79,7 @@ fn key_of(r: Requirement) -> usize
 }
 
 // Where the lists of a requirement begin.
-fn first_slot(key: usize) -> usize
+pub fn first_slot(key: usize) -> usize
     requires { ⌜ key < requirements ⌝ }
     ensures { λ r. ⌜ r ≡ firstSlot key ⌝ }
 {
@@ -318,7 +318,7 @@ fn is_tabled(s: &[u32], kind: u32, id: u32) -> bool
 }
 
 // How many lists a requirement has.
-fn list_count(s: &[u32], key: usize) -> usize
+pub fn list_count(s: &[u32], key: usize) -> usize
     requires { ⌜ (words ≤ length (now s)) × (key < requirements) ⌝ }
     ensures { λ r. ⌜ r ≡ listCount (now (s .entry)) key ⌝ }
 {

@@ -1,106 +1,76 @@
 use borrow.Author.Needs.{needs}
 use Rattle.edges.proofs.load_nodes.Statement.{statement}
 use Rattle.edges.proofs.load_nodes.Tie as tie
-use Rattle.edges.proofs.load_nodes.Reads as reads
-use Rattle.edges.proofs.load_nodes.Lts as lts
-use Rattle.edges.proofs.expect_loaded.Reads as expect-loaded-reads
-use Rattle.edges.proofs.load_and.Reads as load-and-reads
-use Rattle.tables.proofs.load_condition.Reads as load-condition-reads
-use Rattle.tables.proofs.load_version_set.Reads as load-version-set-reads
 
--- src/main.rt:63:19
 load-version-set-requires : tie.Need-load-version-set-requires
 load-version-set-requires c κs = search needs
 
--- src/main.rt:63:5
 expect-loaded-requires : tie.Need-expect-loaded-requires
 expect-loaded-requires c κs = search needs
 
--- src/main.rt:64:19
 load-version-set-requires-2 : tie.Need-load-version-set-requires-2
 load-version-set-requires-2 c κs = search needs
 
--- src/main.rt:64:5
 expect-loaded-requires-2 : tie.Need-expect-loaded-requires-2
 expect-loaded-requires-2 c κs = search needs
 
--- src/main.rt:65:19
 load-condition-requires : tie.Need-load-condition-requires
 load-condition-requires c κs = search needs
 
--- src/main.rt:65:5
 expect-loaded-requires-3 : tie.Need-expect-loaded-requires-3
 expect-loaded-requires-3 c κs = search needs
 
--- src/main.rt:66:19
 load-condition-requires-2 : tie.Need-load-condition-requires-2
 load-condition-requires-2 c κs = search needs
 
--- src/main.rt:66:5
 expect-loaded-requires-4 : tie.Need-expect-loaded-requires-4
 expect-loaded-requires-4 c κs = search needs
 
--- src/main.rt:67:19
 load-condition-requires-3 : tie.Need-load-condition-requires-3
 load-condition-requires-3 c κs = search needs
 
--- src/main.rt:67:5
 expect-loaded-requires-5 : tie.Need-expect-loaded-requires-5
 expect-loaded-requires-5 c κs = search needs
 
--- src/main.rt:68:5
 load-and-requires : tie.Need-load-and-requires
 load-and-requires c κs = search needs
 
--- src/main.rt:69:5
 load-and-requires-2 : tie.Need-load-and-requires-2
 load-and-requires-2 c κs = search needs
 
--- src/main.rt:70:5
 load-and-requires-3 : tie.Need-load-and-requires-3
 load-and-requires-3 c κs = search needs
 
--- src/main.rt:71:5
 load-and-requires-4 : tie.Need-load-and-requires-4
 load-and-requires-4 c κs = search needs
 
--- src/main.rt:72:5
 load-and-requires-5 : tie.Need-load-and-requires-5
 load-and-requires-5 c κs = search needs
 
--- src/main.rt:73:19
 load-condition-requires-4 : tie.Need-load-condition-requires-4
 load-condition-requires-4 c κs = search needs
 
--- src/main.rt:73:5
 expect-loaded-requires-6 : tie.Need-expect-loaded-requires-6
 expect-loaded-requires-6 c κs = search needs
 
--- src/main.rt:74:5
 load-and-requires-6 : tie.Need-load-and-requires-6
 load-and-requires-6 c κs = search needs
 
--- src/main.rt:75:5
 load-and-requires-7 : tie.Need-load-and-requires-7
 load-and-requires-7 c κs = search needs
 
--- src/main.rt:76:5
 load-and-requires-8 : tie.Need-load-and-requires-8
 load-and-requires-8 c κs = search needs
 
--- src/main.rt:77:5
 load-and-requires-9 : tie.Need-load-and-requires-9
 load-and-requires-9 c κs = search needs
 
--- src/main.rt:78:5
 load-and-requires-10 : tie.Need-load-and-requires-10
 load-and-requires-10 c κs = search needs
 
--- src/main.rt:62:1
 same-length : tie.Need-same-length
 same-length c = ?
 
--- src/main.rt:62:1
 returns : tie.Need-returns
 returns c = search needs
 

@@ -1,0 +1,5 @@
+pub mod Reading
+pub mod Turns
+pub mod Cells
+pub mod Scans
+pub mod Literals

@@ -1,0 +1,52 @@
+-- Literals and conditions: a literal's sign, the loop over literals, a condition's literals. Assumes nothing.
+use mathlib.Core.Bool.{true, false}
+use mathlib.Core.List.{List}
+use mathlib.Core.Logic.{_≢_}
+use mathlib.Core.Path.{_≡_, sym, _∙_}
+use Prim.Native.Nat.{ℕ, _+_, _-_, _≤_, _<_}
+use borrow.Author.Tests.{eq-eqb, ne-eqb}
+use Rattle.evaluate.proofs.Turns.{from-next, from-done}
+use Rattle.evaluate.specs.View.{from, literalAt, literalsAt}
+use Rattle.rules.specs.Walk.{isTrue, isFalse, literalFalse, allFalse}
+use Rattle.store.specs.Area.{at}
+use Rattle.store.specs.Layout.{disjunctionStarts, disjunctionSizes, literalVariables, literalSigns}
+use Rattle.trail.specs.declared.Value.{Value}
+
+-- a negated literal turns its variable's value round
+module _ (a : ℕ → Value) (w : List ℕ) (i v g : ℕ) (p : v ≡ at literalVariables i w) (q : g ≡ at literalSigns i w) where
+  pub negated-false : g ≡ 1 → isTrue (a v) ≡ literalFalse a (literalAt w i)
+  unfolding literalAt
+  negated-false h = rw (← p, ← q, eq-eqb g 1 h)
+
+  pub plain-false : g ≢ 1 → isFalse (a v) ≡ literalFalse a (literalAt w i)
+  unfolding literalAt
+  plain-false h = rw (← p, ← q, ne-eqb g 1 h)
+
+-- the loop over literals
+module _ (a : ℕ → Value) (w : List ℕ) (t n i : ℕ) (so : allFalse a (from (literalAt w) t n) ≡ allFalse a (from (literalAt w) (t + i) (n - i))) where
+  pub literals-fail : i < n → literalFalse a (literalAt w (t + i)) ≡ false → false ≡ allFalse a (from (literalAt w) t n)
+  unfolding allFalse
+  literals-fail h e = sym (so ∙ rw (from-next (literalAt w) t n i h, e))
+
+  pub literals-next : i < n → literalFalse a (literalAt w (t + i)) ≡ true → allFalse a (from (literalAt w) t n) ≡ allFalse a (from (literalAt w) (t + (i + 1)) (n - (i + 1)))
+  unfolding allFalse
+  literals-next h e = so ∙ rw (from-next (literalAt w) t n i h, e)
+
+  pub literals-end : n ≤ i → true ≡ allFalse a (from (literalAt w) t n)
+  unfolding allFalse
+  literals-end h = sym (so ∙ rw (from-done (literalAt w) t n i h))
+
+-- "an absent or empty condition passes"
+module _ (a : ℕ → Value) (w : List ℕ) (c : ℕ) where
+  pub absent-passes : c ≡ 0 → true ≡ allFalse a (literalsAt w c)
+  unfolding literalsAt allFalse
+  absent-passes h = rw (eq-eqb c 0 h)
+
+  module _ (d size : ℕ) (h : c ≢ 0) (e : d ≡ c - 1) (q : size ≡ at disjunctionSizes d w) where
+    pub unloaded-passes : size ≡ 0 → true ≡ allFalse a (literalsAt w c)
+    unfolding literalsAt allFalse from
+    unloaded-passes z = rw (ne-eqb c 0 h, ← e, ← q, z)
+
+    pub literals-are : (place : ℕ) → place ≡ at disjunctionStarts d w → allFalse a (from (literalAt w) place (size - 1)) ≡ allFalse a (literalsAt w c)
+    unfolding literalsAt
+    literals-are place p = rw (ne-eqb c 0 h, ← e, ← p, ← q)

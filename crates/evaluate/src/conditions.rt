@@ -1,0 +1,54 @@
+// Conditions under the present assignment: a condition passes if every literal of it is false.
+ghost use mathlib.Core.Path.{_≡_};
+ghost use Prim.Native.Nat.{_+_, _≤_, _<_};
+ghost use Rattle.store.specs.Limits.{disjunctions, literalRoom};
+ghost use Rattle.store.specs.Shape.{Sound};
+ghost use Rattle.rules.specs.Walk.{literalFalse, allFalse};
+ghost use Rattle.evaluate.specs.View.{assigned, from, literalAt, literalsAt};
+use crate::assignment;
+use store::read;
+use store::wide;
+
+// Whether a literal is false: its variable is decided, and false (true, if negated).
+fn literal_false(s: &[u32], i: usize) -> bool
+    requires { ⌜ (Sound (now s)) × (i < literalRoom) ⌝ }
+    ensures { λ r. ⌜ r ≡ literalFalse (assigned (now (s .entry))) (literalAt (now (s .entry)) i) ⌝ }
+{
+    let variable = read::literal_variable(s, i);
+    if read::literal_sign(s, i) == 1 {
+        return assignment::is_true(s, variable);
+    }
+    assignment::is_false(s, variable)
+}
+
+// Whether each of n literals is false.
+fn all_false(s: &[u32], start: usize, n: usize) -> bool
+    requires { ⌜ (Sound (now s)) × (start + n ≤ literalRoom) ⌝ }
+    ensures { λ r. ⌜ r ≡ allFalse (assigned (now (s .entry))) (from (literalAt (now (s .entry))) start n) ⌝ }
+{
+    let mut i: usize = 0;
+    while i < n {
+        if literal_false(s, start + i) {} else {
+            return false;
+        }
+        i += 1;
+    }
+    true
+}
+
+// Whether a condition passes: 0 is none, else one more than the disjunction.
+pub fn passes(s: &[u32], condition: u32) -> bool
+    requires { ⌜ (Sound (now s)) × (condition ≤ disjunctions) ⌝ }
+    ensures { λ r. ⌜ r ≡ allFalse (assigned (now (s .entry))) (literalsAt (now (s .entry)) condition) ⌝ }
+{
+    if condition == 0 {
+        return true;
+    }
+    let disjunction = wide(condition - 1);
+    let size = wide(read::disjunction_size(s, disjunction));
+    if size == 0 {
+        return true;
+    }
+    let start = wide(read::disjunction_start(s, disjunction));
+    all_false(s, start, size - 1)
+}
