@@ -1,0 +1,5 @@
+pub mod InsertLaws
+pub mod Kept
+pub mod Naming
+pub mod Ranking
+pub mod Registers

@@ -1,0 +1,109 @@
+-- Registering a clause: tested, then put in at its rank.
+use mathlib.Core.Bool.{Bool, true, not, cond, _&&_, _||_}
+use mathlib.Core.List.{List}
+use mathlib.Core.Path.{_≡_}
+use Prim.Native.Nat.{ℕ, _+_, _≤_, _<_}
+use lib.Dec.{leb, ltb, eqb}
+use Rattle.clauses.specs.Names.{distinctNames}
+use Rattle.clauses.specs.Record.{rankOf}
+use Rattle.requirement.specs.Tables.{keyAt}
+use Rattle.store.specs.Area.{at, put}
+use Rattle.store.specs.Layout.{queued, map, clauseCount, conditionTotal, nameTotal, clauseParents, clauseRequirements, clauseConditions, clauseIds, tablesLoaded}
+use Rattle.store.specs.Limits.{variables, clauses, versionSets, unions, conditionRoom, nameRoom, lastWord, requirements}
+use Rattle.store.specs.Ranks.{inserted}
+use Rattle.store.specs.Shape.{soundShape}
+use Rattle.tables.specs.Disjunction.{disjunctionLoaded, literalsOf}
+use Rattle.trail.specs.Cell.{cellSide}
+use Rattle.clauses.specs.declared.Registered.{Registered}
+use Rattle.clauses.specs.declared.Registered.the-variants.{Done, Refused}
+use Rattle.tables.specs.declared.Literals.{Literals}
+
+-- "an id is out of range, or names something not loaded; a kind number is unknown": the requirement's candidate table is loaded
+unfoldable pub hasTable : List ℕ → ℕ → ℕ → Bool
+hasTable w kind requirement =
+    cond (eqb kind 0)
+    (ltb requirement versionSets && not (eqb (at tablesLoaded requirement w) 0))
+    (eqb kind 1 && ltb requirement unions && not (eqb (at tablesLoaded (versionSets + requirement) w) 0))
+
+-- 4,294,967,295 for no condition, else a loaded disjunction
+unfoldable pub knownCondition : List ℕ → ℕ → Bool
+knownCondition w condition = eqb condition lastWord || disjunctionLoaded w condition
+
+-- as it is stored: 0 for none, else one more than the disjunction
+unfoldable pub conditionWord : ℕ → ℕ
+conditionWord condition = cond (eqb condition lastWord) 0 (condition + 1)
+
+-- "their condition's literals"
+unfoldable pub literalCountOf : List ℕ → ℕ → ℕ
+literalCountOf w condition = cond (eqb condition lastWord) 0 (literalsOf w condition .count)
+
+-- everything that the clause names is there
+unfoldable pub allNamed : List ℕ → ℕ → ℕ → ℕ → ℕ → Bool
+allNamed w parent kind requirement condition = ltb parent variables && hasTable w kind requirement && knownCondition w condition
+
+-- "Clauses 512. The sum over registered clauses of their condition's literals is at most 1,024, and the sum of their distinct names
+-- at most 1,024."
+unfoldable pub hasRoom : List ℕ → ℕ → ℕ → Bool
+hasRoom w key condition =
+    ltb (at clauseCount 0 w) clauses
+    && leb (at conditionTotal 0 w + literalCountOf w condition) conditionRoom
+    && leb (at nameTotal 0 w + distinctNames w key) nameRoom
+
+-- on a store of sound shape: the tests 2 and 3
+unfoldable pub registerIn : List ℕ → ℕ → ℕ → ℕ → ℕ → Registered
+registerIn w parent kind requirement condition =
+    cond (not (allNamed w parent kind requirement condition)) (Refused 2)
+    (cond (not (hasRoom w (keyAt kind requirement) condition)) (Refused 3)
+    Done)
+
+-- what "done" says of the clause
+pub record Placed (w : List ℕ) (parent key condition : ℕ) : Type 0 where
+  pub parent< : parent < variables
+  pub key< : key < requirements
+  pub known : knownCondition w condition ≡ true
+  pub few : at clauseCount 0 w < clauses
+  pub literals≤ : at conditionTotal 0 w + literalCountOf w condition ≤ conditionRoom
+  pub names≤ : at nameTotal 0 w + distinctNames w key ≤ nameRoom
+
+-- a new clause is queued exactly if its parent is true now
+unfoldable pub queuedMark : List ℕ → ℕ → ℕ
+queuedMark w parent = cond (eqb (cellSide (at map parent w)) 1) 1 0
+
+-- a record put in at its rank
+unfoldable pub recordIn : ℕ → ℕ → ℕ → ℕ → ℕ → ℕ → List ℕ → List ℕ
+recordIn rank count parent key condition id w =
+    inserted clauseIds rank count id
+    (inserted clauseConditions rank count condition
+    (inserted clauseRequirements rank count key
+    (inserted clauseParents rank count parent w)))
+
+-- the record and its mark at the clause's rank, and the three sums
+unfoldable pub registered : List ℕ → ℕ → ℕ → ℕ → ℕ → List ℕ
+registered w parent key condition clause =
+    put nameTotal 0 (at nameTotal 0 w + distinctNames w key)
+    (put conditionTotal 0 (at conditionTotal 0 w + literalCountOf w condition)
+    (put clauseCount 0 (at clauseCount 0 w + 1)
+    (inserted queued (rankOf w parent) (at clauseCount 0 w) (queuedMark w parent)
+    (recordIn (rankOf w parent) (at clauseCount 0 w) parent key (conditionWord condition) clause w))))
+
+-- only "done" changes a word
+abbrev pub registerLeft : Registered → List ℕ → List ℕ → List ℕ
+registerLeft Done made found = made
+registerLeft (Refused n) made found = found
+
+unfoldable pub registerInStore : List ℕ → ℕ → ℕ → ℕ → ℕ → ℕ → List ℕ
+registerInStore w parent kind requirement condition clause =
+    registerLeft (registerIn w parent kind requirement condition) (registered w parent (keyAt kind requirement) condition clause) w
+
+-- on any words
+unfoldable pub registerOut : List ℕ → ℕ → ℕ → ℕ → ℕ → Registered
+registerOut w parent kind requirement condition = cond (soundShape w) (registerIn w parent kind requirement condition) (Refused 1)
+
+unfoldable pub registerStore : List ℕ → ℕ → ℕ → ℕ → ℕ → ℕ → List ℕ
+registerStore w parent kind requirement condition clause =
+    cond (soundShape w) (registerInStore w parent kind requirement condition clause) w
+
+-- the answer's number in document 01
+abbrev pub registeredNumber : Registered → ℕ
+registeredNumber Done = 0
+registeredNumber (Refused n) = n

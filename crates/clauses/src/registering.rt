@@ -1,0 +1,291 @@
+// Registering a clause in a store of sound shape. The layers above, which have tested the shape, call these.
+ghost use mathlib.Core.Bool.{true};
+ghost use mathlib.Core.Path.{_≡_};
+ghost use Prim.Native.Nat.{_+_, _≤_, _<_};
+ghost use lib.ListN.{length};
+ghost use Rattle.store.specs.Layout.{words};
+ghost use Rattle.store.specs.Limits.{clauses, variables, requirements, unionRoom, unionLists, disjunctions};
+ghost use Rattle.store.specs.Shape.{Sound};
+ghost use Rattle.requirement.specs.Tables.{keyAt};
+ghost use Rattle.clauses.specs.Names.{memberName, newName, nameCount, newNames, distinctNames};
+ghost use Rattle.clauses.specs.Register.{hasTable, knownCondition, conditionWord, literalCountOf, allNamed, hasRoom, registerIn, queuedMark, recordIn, Placed, registered, registerInStore};
+use crate::Registered;
+use crate::records;
+use store::areas;
+use store::limits;
+use store::ranks;
+use store::read;
+use store::wide;
+use store::write;
+use tables::disjunction;
+use trail::decision_map;
+
+// The name of the version set at a place of the unions' members, as it is stored.
+fn name_at(s: &[u32], place: usize) -> u32
+    requires { ⌜ (Sound (now s)) × (place < unionLists) ⌝ }
+    ensures { λ r. ⌜ r ≡ memberName (now (s .entry)) place ⌝ }
+{
+    read::set_name(s, wide(read::union_set(s, place)))
+}
+
+// Whether no member before member i of the union whose places begin at `first` has its name.
+fn new_name(s: &[u32], first: usize, i: usize) -> bool
+    requires { ⌜ (Sound (now s)) × (i < unionRoom) × (first + unionRoom ≤ unionLists) ⌝ }
+    ensures { λ r. ⌜ r ≡ newName (now (s .entry)) first i ⌝ }
+{
+    let mut j: usize = 0;
+    while j < i {
+        if name_at(s, first + j) == name_at(s, first + i) {
+            return false;
+        }
+        j += 1;
+    }
+    true
+}
+
+// How many names member i adds.
+fn name_count(s: &[u32], first: usize, i: usize) -> usize
+    requires { ⌜ (Sound (now s)) × (i < unionRoom) × (first + unionRoom ≤ unionLists) ⌝ }
+    ensures { λ r. ⌜ r ≡ nameCount (now (s .entry)) first i ⌝ }
+{
+    if new_name(s, first, i) {
+        return 1;
+    }
+    0
+}
+
+// How many distinct names the first n members have.
+fn new_names(s: &[u32], first: usize, n: usize) -> usize
+    requires { ⌜ (Sound (now s)) × (n ≤ unionRoom) × (first + unionRoom ≤ unionLists) ⌝ }
+    ensures { λ r. ⌜ r ≡ newNames (now (s .entry)) first n ⌝ }
+{
+    let mut count: usize = 0;
+    let mut i: usize = 0;
+    while i < n {
+        count += name_count(s, first, i);
+        i += 1;
+    }
+    count
+}
+
+// How many distinct names the version sets of a requirement have.
+fn names_of(s: &[u32], key: usize) -> usize
+    requires { ⌜ (Sound (now s)) × (key < requirements) ⌝ }
+    ensures { λ r. ⌜ r ≡ distinctNames (now (s .entry)) key ⌝ }
+{
+    if key < limits::VERSION_SETS {
+        return 1;
+    }
+    let union = key - limits::VERSION_SETS;
+    let stored = wide(read::union_size(s, union));
+    if stored == 0 {
+        return 0;
+    }
+    new_names(s, limits::UNION_ROOM * union, stored - 1)
+}
+
+// The key of a requirement.
+fn key_of(kind: u32, requirement: u32) -> usize
+    ensures { λ r. ⌜ r ≡ keyAt kind requirement ⌝ }
+{
+    if kind == 0 {
+        return wide(requirement);
+    }
+    limits::VERSION_SETS + wide(requirement)
+}
+
+// Whether a kind and an id name a requirement whose candidate table is loaded.
+fn is_tabled(s: &[u32], kind: u32, requirement: u32) -> bool
+    requires { ⌜ words ≤ length (now s) ⌝ }
+    ensures { λ r. ⌜ r ≡ hasTable (now (s .entry)) kind requirement ⌝ }
+{
+    if kind == 0 {
+        if requirement < limits::VERSION_SETS as u32 {
+            return read::table_loaded(s, wide(requirement)) != 0;
+        }
+        return false;
+    }
+    if kind == 1 {
+        if requirement < limits::UNIONS as u32 {
+            return read::table_loaded(s, limits::VERSION_SETS + wide(requirement)) != 0;
+        }
+    }
+    false
+}
+
+// Whether a condition is none or a loaded disjunction.
+fn is_known(s: &[u32], condition: u32) -> bool
+    requires { ⌜ words ≤ length (now s) ⌝ }
+    ensures { λ r. ⌜ r ≡ knownCondition (now (s .entry)) condition ⌝ }
+{
+    if condition == limits::LAST_WORD as u32 {
+        return true;
+    }
+    disjunction::disjunction_loaded(s, condition)
+}
+
+// A condition as it is stored.
+fn condition_word(condition: u32) -> u32
+    ensures { λ r. ⌜ r ≡ conditionWord condition ⌝ }
+{
+    if condition == limits::LAST_WORD as u32 {
+        return 0;
+    }
+    condition + 1
+}
+
+// How many literals a condition has.
+fn literals_in(s: &[u32], condition: u32) -> usize
+    requires { ⌜ (words ≤ length (now s)) × (knownCondition (now s) condition ≡ true) ⌝ }
+    ensures { λ r. ⌜ r ≡ literalCountOf (now (s .entry)) condition ⌝ }
+{
+    if condition == limits::LAST_WORD as u32 {
+        return 0;
+    }
+    let literals = disjunction::literals_of(s, condition);
+    wide(literals.count)
+}
+
+// Whether everything that a clause names is there.
+fn is_named(s: &[u32], parent: u32, kind: u32, requirement: u32, condition: u32) -> bool
+    requires { ⌜ words ≤ length (now s) ⌝ }
+    ensures { λ r. ⌜ r ≡ allNamed (now (s .entry)) parent kind requirement condition ⌝ }
+{
+    if parent < limits::VARIABLES as u32 {
+        if is_tabled(s, kind, requirement) {
+            return is_known(s, condition);
+        }
+    }
+    false
+}
+
+// Whether one more clause fits, with its literals and its names.
+fn has_room(s: &[u32], key: usize, condition: u32) -> bool
+    requires { ⌜ (Sound (now s)) × (key < requirements) × (knownCondition (now s) condition ≡ true) ⌝ }
+    ensures { λ r. ⌜ r ≡ hasRoom (now (s .entry)) key condition ⌝ }
+{
+    if wide(read::clause_count(s)) < limits::CLAUSES {
+        let literals = wide(read::condition_total(s)) + literals_in(s, condition);
+        if literals <= limits::CONDITION_ROOM {
+            let names = wide(read::name_total(s)) + names_of(s, key);
+            return names <= limits::NAME_ROOM;
+        }
+    }
+    false
+}
+
+// What registering would answer.
+fn register_case(s: &[u32], parent: u32, kind: u32, requirement: u32, condition: u32) -> Registered
+    requires { ⌜ Sound (now s) ⌝ }
+    ensures { λ r. ⌜ r ≡ registerIn (now (s .entry)) parent kind requirement condition ⌝ }
+{
+    if is_named(s, parent, kind, requirement, condition) {} else {
+        return Registered::Refused(2);
+    }
+    if has_room(s, key_of(kind, requirement), condition) {} else {
+        return Registered::Refused(3);
+    }
+    Registered::Done
+}
+
+// The mark of a new clause: it is queued exactly if its parent is true now.
+fn mark_of(s: &[u32], parent: u32) -> u32
+    requires { ⌜ (words ≤ length (now s)) × (parent < variables) ⌝ }
+    ensures { λ r. ⌜ r ≡ queuedMark (now (s .entry)) parent ⌝ }
+{
+    if decision_map::side(read::cell(s, wide(parent))) == 1 {
+        return 1;
+    }
+    0
+}
+
+// Puts a record in at its rank, in each area of the records.
+fn put_record(
+    s: &mut [u32],
+    rank: usize,
+    count: usize,
+    parent: u32,
+    key: u32,
+    condition: u32,
+    id: u32,
+)
+    requires { ⌜ (words ≤ length (now s)) × (rank ≤ count) × (count < clauses) ⌝ }
+    ensures { λ _. ⌜ now (s .exit) ≡ recordIn rank count parent key condition id (now (s .entry)) ⌝ }
+{
+    ranks::insert(
+        s,
+        areas::CLAUSE_PARENTS,
+        areas::CLAUSE_PARENTS_SIZE,
+        rank,
+        count,
+        parent,
+    );
+    ranks::insert(
+        s,
+        areas::CLAUSE_REQUIREMENTS,
+        areas::CLAUSE_REQUIREMENTS_SIZE,
+        rank,
+        count,
+        key,
+    );
+    ranks::insert(
+        s,
+        areas::CLAUSE_CONDITIONS,
+        areas::CLAUSE_CONDITIONS_SIZE,
+        rank,
+        count,
+        condition,
+    );
+    ranks::insert(
+        s,
+        areas::CLAUSE_IDS,
+        areas::CLAUSE_IDS_SIZE,
+        rank,
+        count,
+        id,
+    );
+}
+
+// The work of registering, once nothing refuses it.
+fn put_in(s: &mut [u32], parent: u32, key: usize, condition: u32, clause: u32)
+    requires { ⌜ (Sound (now s)) × (Placed (now s) parent key condition) ⌝ }
+    ensures { λ _. ⌜ now (s .exit) ≡ registered (now (s .entry)) parent key condition clause ⌝ }
+{
+    let count = wide(read::clause_count(s));
+    let rank = records::rank_of(s, parent, count);
+    let mark = mark_of(s, parent);
+    let literals = wide(read::condition_total(s)) + literals_in(s, condition);
+    let names = wide(read::name_total(s)) + names_of(s, key);
+    put_record(
+        s,
+        rank,
+        count,
+        parent,
+        key as u32,
+        condition_word(condition),
+        clause,
+    );
+    ranks::insert(s, areas::QUEUED, areas::QUEUED_SIZE, rank, count, mark);
+    write::clause_count(s, count as u32 + 1);
+    write::condition_total(s, literals as u32);
+    write::name_total(s, names as u32);
+}
+
+pub fn register(
+    s: &mut [u32],
+    parent: u32,
+    kind: u32,
+    requirement: u32,
+    condition: u32,
+    clause: u32,
+) -> Registered
+    requires { ⌜ Sound (now s) ⌝ }
+    ensures { λ r. ⌜ (r ≡ registerIn (now (s .entry)) parent kind requirement condition) × (now (s .exit) ≡ registerInStore (now (s .entry)) parent kind requirement condition clause) ⌝ }
+{
+    let r = register_case(s, parent, kind, requirement, condition);
+    match r {
+        Registered::Done => put_in(s, parent, key_of(kind, requirement), condition, clause),
+        Registered::Refused(_) => {}
+    }
+    r
+}
