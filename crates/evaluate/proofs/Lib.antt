@@ -3,3 +3,4 @@ pub mod Turns
 pub mod Cells
 pub mod Scans
 pub mod Literals
+pub mod Frames

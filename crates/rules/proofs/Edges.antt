@@ -40,11 +40,11 @@ start =
       queue = record { mark = λ k. false; memo = λ r. Dirty };
     }
 
-yes! : ℕ → ℕ → Entry
-yes! v l = record { variable = v; positive = true; level = l }
+yes! : ℕ → Entry
+yes! v = record { variable = v; positive = true }
 
-no! : ℕ → ℕ → Entry
-no! v l = record { variable = v; positive = false; level = l }
+no! : ℕ → Entry
+no! v = record { variable = v; positive = false }
 
 -- the bits of 2.0 and of 5.0
 two : ℕ
@@ -54,16 +54,16 @@ five : ℕ
 five = 1084227584
 
 p2 : Store
-p2 = pushed (registered start 0 0 [] 10) (yes! 0 1)
+p2 = pushed (registered start 0 0 [] 10) (yes! 0)
 
 p3 : Store
 p3 = sync p2
 
 p4 : Store
-p4 = sync (pushed p3 (no! 1 1))
+p4 = sync (pushed p3 (no! 1))
 
 p5 : Store
-p5 = sync (pushed p4 (yes! 3 2))
+p5 = sync (pushed p4 (yes! 3))
 
 p5b : Store
 p5b = sync (cut (ask p5) 2)
@@ -72,13 +72,13 @@ p6 : Store
 p6 = tuned (registered p3 0 1 [] 11) (λ n. cond (eqb n 1) two 0) (λ n. eqb n 1) true
 
 p7 : Store
-p7 = sync (pushed p6 (no! 1 1))
+p7 = sync (pushed p6 (no! 1))
 
 p8 : Store
-p8 = tuned (sync (pushed (registered p3 7 2 [] 12) (yes! 7 1))) (λ n. cond (eqb n 2) five 0) (λ n. eqb n 2) true
+p8 = tuned (sync (pushed (registered p3 7 2 [] 12) (yes! 7))) (λ n. cond (eqb n 2) five 0) (λ n. eqb n 2) true
 
 p9 : Store
-p9 = sync (pushed (pushed (pushed p3 (no! 1 1)) (no! 2 1)) (no! 3 1))
+p9 = sync (pushed (pushed (pushed p3 (no! 1)) (no! 2)) (no! 3))
 
 -- "candidate, parent, clause id, activity, count, and the number of clauses dropped"
 chosen : Environment → Best → ℕ → List ℕ

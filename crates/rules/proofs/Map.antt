@@ -13,7 +13,7 @@ use Rattle.rules.specs.Sync.{Entry, valueOf, value}
 use Rattle.rules.specs.Store.{changed}
 
 abbrev pub none : Entry
-none = record { variable = 0; positive = false; level = 0 }
+none = record { variable = 0; positive = false }
 
 -- no entry's variable was assigned when it was pushed
 unfoldable pub Grown : List Entry → Type 0

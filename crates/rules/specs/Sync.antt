@@ -46,11 +46,10 @@ unfoldable pub routes : Environment → (ℕ → Value) → List ℕ → Queue �
 routes e a [] s = s
 routes e a (v ∷ vs) s = routes e a vs (route e a v s)
 
--- a trail entry
+-- a trail entry: its level plays no part in what follows
 pub record Entry : Type 0 where
   pub variable : ℕ
   pub positive : Bool
-  pub level : ℕ
 
 -- the value of an entry
 abbrev pub valueOf : Bool → Value

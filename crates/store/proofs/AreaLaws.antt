@@ -3,12 +3,12 @@ use mathlib.Core.Bool.{Bool, true, false, _&&_, _||_}
 use mathlib.Core.List.{List, [], _∷_, _++_, append-assoc}
 use mathlib.Core.Logic.{⊎-elim, _≢_}
 use mathlib.Core.Path.{_≡_, refl, sym, ap, _∙_}
-use Prim.Native.Nat.{ℕ, suc, _+_, _-_, _≤_, _<_}
+use Prim.Native.Nat.{ℕ, zero, suc, _+_, _-_, _≤_, _<_}
 use native.Mathlib.Omega.{arith}
 use borrow.Author.Tests.{leb-true}
 use lib.Dec.{T, leb, le→leb}
 use lib.ListN.{length, getD, take, drop, set, replicate, length-append, take-append-drop, length-take, length-drop, length-set, length-replicate, replicate-append-replicate, List·getD-eq-default}
-use lib.Seq.{drop-cons, take-append-le, drop-append-le, drop-append-add, getD-set-same, getD-set-other, take-set-le, drop-set-lt, take-set-lt, drop-set-add, getD-take, getD-drop, drop-drop, set-at, take-at, drop-at}
+use lib.Seq.{drop-cons, take-append-le, drop-append-le, drop-append-add, getD-set-same, getD-set-other, take-set-le, drop-set-lt, take-set-lt, drop-set-add, getD-take, getD-drop, take-take, drop-drop, set-at, take-at, drop-at}
 use Rattle.store.proofs.Choice.{both, is-true, or-inl, or-inr, lt-or}
 use Rattle.store.specs.Area.{Area, area, at, put, blank, Write, puts, write, Fits, apart, Inside, clearOf}
 
@@ -166,6 +166,28 @@ at-same a b s w t e i = ⊎-elim inner (λ (h : a .size ≤ i). at-past a i s h 
         let l = leb-true (b .base) (a .base) (p .0) in
         let m = leb-true (a .base + a .size) (b .base + b .size) (p .1) in
         at-inside a b i s l m h ∙ ap (λ l. getD l (a .base - b .base + i) 0) e ∙ sym (at-inside a b i w l m h)
+
+part-of-take : {A : Type 0} (m k n : ℕ) (l : List A) → m + k ≤ n → take k (drop m (take n l)) ≡ take k (drop m l)
+part-of-take zero k n l h = take-take k n l (omega arith)
+part-of-take (suc m) k zero l h = absurd (omega arith)
+part-of-take (suc m) k (suc n) [] h = refl
+part-of-take (suc m) k (suc n) (x ∷ l) h = part-of-take m k n l (omega arith)
+
+area-inside : (a b : Area) (w : List ℕ) → b .base ≤ a .base → a .base + a .size ≤ b .base + b .size → area a w ≡ take (a .size) (drop (a .base - b .base) (area b w))
+unfolding area
+area-inside a b w l m =
+    let e : b .base + (a .base - b .base) ≡ a .base = omega arith in
+    sym (
+    part-of-take (a .base - b .base) (a .size) (b .size) (drop (b .base) w) (omega arith)
+    ∙ ap (take (a .size)) (drop-drop (a .base - b .base) (b .base) w ∙ ap (λ k. drop k w) e)
+    )
+
+pub area-same : (a b : Area) (s w : List ℕ) → T (within a b) → area b s ≡ area b w → area a s ≡ area a w
+area-same a b s w t e =
+    let p = both (leb (b .base) (a .base)) (leb (a .base + a .size) (b .base + b .size)) (is-true (within a b) t) in
+    let l = leb-true (b .base) (a .base) (p .0) in
+    let m = leb-true (a .base + a .size) (b .base + b .size) (p .1) in
+    area-inside a b s l m ∙ ap (λ z. take (a .size) (drop (a .base - b .base) z)) e ∙ sym (area-inside a b w l m)
 
 pub at-puts-here : (a : Area) (i x : ℕ) (before after : List Write) (w : List ℕ) → Fits a w → i < a .size → T (clearOf a after) → Inside after → at a i (puts (before ++ write a i x ∷ after) w) ≡ x
 at-puts-here a i x [] after w f h t k = at-written a i x after w f h t k

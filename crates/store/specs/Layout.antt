@@ -221,6 +221,10 @@ clausesRegion = region clauseCount clauseIds
 abbrev pub tablesRegion : Area
 tablesRegion = region setNames nodeRights
 
+-- all that the walk reads but the assignment: settings, clauses and tables
+abbrev pub environmentRegion : Area
+environmentRegion = region mode nodeRights
+
 -- every area whose numbers have a range, with the largest number that a word of it may hold
 abbrev pub table : List Range
 table =

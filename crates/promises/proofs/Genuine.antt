@@ -1,0 +1,69 @@
+-- WORDS REACHED FROM FRESH are genuine: they are of sound shape, the map holds what the trail says, what is named is loaded, and the
+-- store that they stand for is one that document 01 reaches. Each call keeps this. Assumes nothing.
+use mathlib.Core.List.{List}
+use mathlib.Core.Logic.{_≢_}
+use mathlib.Core.Path.{_≡_, ap, sym, _∙_}
+use Prim.Native.Nat.{ℕ, _+_, _-_, _*_, _<_}
+use lib.Dec.{T}
+use lib.ListN.{take}
+use Rattle.evaluate.proofs.Frames.{assigned-same, trail-same}
+use Rattle.evaluate.specs.Standing.{storeOf, trailOf}
+use Rattle.evaluate.specs.View.{assigned}
+use Rattle.rules.specs.Store.{Reached}
+use Rattle.rules.specs.Sync.{Entry, value}
+use Rattle.store.proofs.AreaLaws.{area-same, at-same, within}
+use Rattle.store.specs.Area.{Area, area, at}
+use Rattle.store.specs.Layout.{clauseConditions, clauseCount, disjunctionSizes, environmentRegion, map, setNames, tablesLoaded, trailLength, trailRegion, trailVariables, unionSets, unionSizes}
+use Rattle.store.specs.Limits.{unionRoom, unions, versionSets}
+use Rattle.store.specs.Shape.{Sound}
+use Rattle.trail.specs.declared.Value.{Value}
+use Rattle.trail.specs.declared.Value.the-variants.{Undecided}
+
+-- a variable has the value of its entry in the trail, and stands there once
+pub record Mapped (w : List ℕ) : Type 0 where
+  pub told : (v : ℕ) → assigned w v ≡ value (trailOf w) v
+  pub once : (k : ℕ) → k < at trailLength 0 w → value (take k (trailOf w)) (at trailVariables k w) ≡ Undecided
+
+-- a table's version sets, a union's members and a clause's condition are loaded
+pub record Rooted (w : List ℕ) : Type 0 where
+  pub singles : (v : ℕ) → v < versionSets → at tablesLoaded v w ≢ 0 → at setNames v w ≢ 0
+  pub unions-known : (u : ℕ) → u < unions → at tablesLoaded (versionSets + u) w ≢ 0 → at unionSizes u w ≢ 0
+  pub members : (u j : ℕ) → u < unions → j < at unionSizes u w - 1 → at setNames (at unionSets (unionRoom * u + j) w) w ≢ 0
+  pub conditions : (k : ℕ) → k < at clauseCount 0 w → at clauseConditions k w ≢ 0 → at disjunctionSizes (at clauseConditions k w - 1) w ≢ 0
+
+pub record Genuine (w : List ℕ) : Type 0 where
+  pub sound : Sound w
+  pub mapped : Mapped w
+  pub rooted : Rooted w
+  pub reached : Reached (storeOf w)
+
+-- what is outside the trail's region does not matter to the map
+pub mapped-frame : (s w : List ℕ) → area trailRegion s ≡ area trailRegion w → Mapped w → Mapped s
+mapped-frame s w e m =
+    record {
+      told = λ v. ap (λ (f : ℕ → Value). f v) (assigned-same s w (area-same map trailRegion s w tt e)) ∙ m .told v ∙ ap (λ (d : List Entry). value d v) (sym (trail-same s w e));
+      once =
+          λ k h.
+          ap (λ (d : List Entry). value (take k d) (at trailVariables k s)) (trail-same s w e)
+          ∙ ap (λ (v : ℕ). value (take k (trailOf w)) v) (at-same trailVariables trailRegion s w tt e k)
+          ∙ m .once k (rw (at-same trailLength trailRegion s w tt e 0) at h);
+    }
+
+-- and to what is loaded only settings, clauses and tables do
+pub rooted-frame : (s w : List ℕ) → area environmentRegion s ≡ area environmentRegion w → Rooted w → Rooted s
+rooted-frame s w e r =
+    record {
+      singles = λ v l h. rw (here setNames tt v) (r .singles v l (rw (here tablesLoaded tt v) at h));
+      unions-known = λ u l h. rw (here unionSizes tt u) (r .unions-known u l (rw (here tablesLoaded tt (versionSets + u)) at h));
+      members =
+          λ u j l h.
+          rw (here unionSets tt (unionRoom * u + j), here setNames tt (at unionSets (unionRoom * u + j) w))
+          (r .members u j l (rw (here unionSizes tt u) at h));
+      conditions =
+          λ k l h.
+          rw (here clauseConditions tt k, here disjunctionSizes tt (at clauseConditions k w - 1))
+          (r .conditions k (rw (here clauseCount tt 0) at l) (rw (here clauseConditions tt k) at h));
+    }
+  where
+    here : (a : Area) → T (within a environmentRegion) → (i : ℕ) → at a i s ≡ at a i w
+    here a t i = at-same a environmentRegion s w t e i
