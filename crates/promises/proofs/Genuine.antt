@@ -3,7 +3,7 @@
 use mathlib.Core.List.{List}
 use mathlib.Core.Logic.{_≢_}
 use mathlib.Core.Path.{_≡_, ap, sym, _∙_}
-use Prim.Native.Nat.{ℕ, _+_, _-_, _*_, _<_}
+use Prim.Native.Nat.{ℕ, _+_, _-_, _*_, _≤_, _<_}
 use lib.Dec.{T}
 use lib.ListN.{take}
 use Rattle.evaluate.proofs.Frames.{assigned-same, trail-same}
@@ -13,7 +13,7 @@ use Rattle.rules.specs.Store.{Reached}
 use Rattle.rules.specs.Sync.{Entry, value}
 use Rattle.store.proofs.AreaLaws.{area-same, at-same, within}
 use Rattle.store.specs.Area.{Area, area, at}
-use Rattle.store.specs.Layout.{clauseConditions, clauseCount, disjunctionSizes, environmentRegion, map, setNames, tablesLoaded, trailLength, trailRegion, trailVariables, unionSets, unionSizes}
+use Rattle.store.specs.Layout.{clauseConditions, clauseCount, disjunctionSizes, disjunctionStarts, environmentRegion, literalCount, map, setNames, tablesLoaded, trailLength, trailRegion, trailVariables, unionSets, unionSizes}
 use Rattle.store.specs.Limits.{unionRoom, unions, versionSets}
 use Rattle.store.specs.Shape.{Sound}
 use Rattle.trail.specs.declared.Value.{Value}
@@ -24,12 +24,13 @@ pub record Mapped (w : List ℕ) : Type 0 where
   pub told : (v : ℕ) → assigned w v ≡ value (trailOf w) v
   pub once : (k : ℕ) → k < at trailLength 0 w → value (take k (trailOf w)) (at trailVariables k w) ≡ Undecided
 
--- a table's version sets, a union's members and a clause's condition are loaded
+-- a table's version sets, a union's members and a clause's condition are loaded; the literals of a loaded disjunction are counted
 pub record Rooted (w : List ℕ) : Type 0 where
   pub singles : (v : ℕ) → v < versionSets → at tablesLoaded v w ≢ 0 → at setNames v w ≢ 0
   pub unions-known : (u : ℕ) → u < unions → at tablesLoaded (versionSets + u) w ≢ 0 → at unionSizes u w ≢ 0
   pub members : (u j : ℕ) → u < unions → j < at unionSizes u w - 1 → at setNames (at unionSets (unionRoom * u + j) w) w ≢ 0
   pub conditions : (k : ℕ) → k < at clauseCount 0 w → at clauseConditions k w ≢ 0 → at disjunctionSizes (at clauseConditions k w - 1) w ≢ 0
+  pub literals : (d : ℕ) → at disjunctionSizes d w ≢ 0 → at disjunctionStarts d w + (at disjunctionSizes d w - 1) ≤ at literalCount 0 w
 
 pub record Genuine (w : List ℕ) : Type 0 where
   pub sound : Sound w
@@ -63,6 +64,9 @@ rooted-frame s w e r =
           λ k l h.
           rw (here clauseConditions tt k, here disjunctionSizes tt (at clauseConditions k w - 1))
           (r .conditions k (rw (here clauseCount tt 0) at l) (rw (here clauseConditions tt k) at h));
+      literals =
+          λ d h.
+          rw (here disjunctionStarts tt d, here disjunctionSizes tt d, here literalCount tt 0) (r .literals d (rw (here disjunctionSizes tt d) at h));
     }
   where
     here : (a : Area) → T (within a environmentRegion) → (i : ℕ) → at a i s ≡ at a i w

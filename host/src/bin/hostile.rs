@@ -1,0 +1,229 @@
+//! Calls every entry point on any bytes: random words, damaged stores, short slices, wild arguments. Each call must answer, and a
+//! refusal other than 8 must leave every word and every lent output as it was.
+//!
+//!     hostile [CALLS]      so many calls (default 10,000,000)
+
+use imbolaverk::generate::{script, Dice, PROFILES};
+use imbolaverk::raw::{self, Decision};
+use imbolaverk::script::Call;
+use imbolaverk::Store;
+use std::sync::atomic::{AtomicU64, Ordering};
+use std::time::{Duration, Instant};
+
+static MADE: AtomicU64 = AtomicU64::new(0);
+
+/// Words behind the lent slice, which no call may touch.
+const GUARD: usize = 64;
+
+fn main() {
+    let wanted: u64 = std::env::args().nth(1).map_or(10_000_000, |word| word.parse().expect("CALLS is a number"));
+    std::thread::spawn(watch);
+    let began = Instant::now();
+    let mut dice = Dice::new(20);
+    let mut answers = [0u64; 13];
+    let mut words = vec![0u32; Store::size() + GUARD];
+    let mut length = Store::size();
+    let mut lists = Lists::new();
+    let step = (wanted / 10).max(1);
+    for call in 0..wanted {
+        if call % 50 == 0 {
+            length = fill(&mut dice, &mut words);
+        } else if dice.often(3) {
+            damage(&mut dice, &mut words);
+        }
+        let number = attempt(&mut dice, &mut words, length, &mut lists);
+        answers[number as usize] += 1;
+        MADE.store(call + 1, Ordering::Relaxed);
+        if (call + 1) % step == 0 {
+            println!("{} calls, {:.0} s", call + 1, began.elapsed().as_secs_f64());
+        }
+    }
+    for (number, count) in answers.iter().enumerate() {
+        println!("  answer {number}: {count}");
+    }
+    println!("{wanted} calls, each answered; no refusal changed a word, no call touched a word beyond its store");
+}
+
+/// Stops the run if a call does not answer.
+fn watch() {
+    let mut last = 0;
+    loop {
+        std::thread::sleep(Duration::from_secs(30));
+        let now = MADE.load(Ordering::Relaxed);
+        if now == last {
+            eprintln!("no answer for 30 s after {now} calls");
+            std::process::abort();
+        }
+        last = now;
+    }
+}
+
+/// New words for the next calls; answers how many of them are lent.
+fn fill(dice: &mut Dice, words: &mut [u32]) -> usize {
+    let size = Store::size();
+    match dice.below(10) {
+        0 => words.iter_mut().for_each(|word| *word = dice.roll() as u32),
+        1 => words.iter_mut().for_each(|word| *word = dice.below(3)),
+        2 => words.fill(dice.pick(&[0, 1, u32::MAX, 0x8000_0000])),
+        _ => {
+            let (_, profile) = dice.pick(&PROFILES);
+            let seed = dice.roll();
+            let lines = script(profile, seed);
+            let part = dice.below(lines.len() as u32 + 1) as usize;
+            let mut store = Store::new();
+            for line in &lines[..part] {
+                if let Some(call) = Call::read(&line.call) {
+                    call.answer(&mut store);
+                }
+            }
+            words[..size].copy_from_slice(store.words());
+            if dice.often(50) {
+                damage(dice, words);
+            }
+        }
+    }
+    match dice.below(12) {
+        0 => dice.below(size as u32) as usize,
+        1 => size - 1,
+        2 => size + GUARD / 2,
+        _ => size,
+    }
+}
+
+/// A few words become others.
+fn damage(dice: &mut Dice, words: &mut [u32]) {
+    for _ in 0..1 + dice.below(3) {
+        let i = dice.below(words.len() as u32) as usize;
+        words[i] = match dice.below(4) {
+            0 => dice.roll() as u32,
+            1 => words[i].wrapping_add(1),
+            2 => words[i].wrapping_sub(1),
+            _ => dice.below(600),
+        };
+    }
+}
+
+/// The lists that calls are lent.
+struct Lists {
+    a: Vec<u32>,
+    b: Vec<u32>,
+    c: Vec<u32>,
+    d: Vec<u32>,
+    trail: Vec<Decision>,
+    out: [u32; 7],
+    before: Vec<u32>,
+}
+
+impl Lists {
+    fn new() -> Lists {
+        Lists { a: vec![], b: vec![], c: vec![], d: vec![], trail: vec![], out: [0; 7], before: vec![] }
+    }
+
+    fn fill(&mut self, dice: &mut Dice) {
+        let same = dice.below(12);
+        for list in [&mut self.a, &mut self.b, &mut self.c] {
+            let length = if dice.often(70) { same } else { dice.below(70) };
+            list.clear();
+            list.extend((0..length).map(|_| small(dice)));
+        }
+        let length = if dice.often(90) { dice.below(80) } else { dice.below(1200) };
+        self.d.clear();
+        self.d.extend((0..length).map(|_| small(dice)));
+        self.trail.clear();
+        self.trail.resize(dice.below(600) as usize, Decision { variable: 7, value: 7, clause: 7 });
+        self.out.iter_mut().for_each(|word| *word = dice.roll() as u32);
+    }
+}
+
+/// A number that is often in range.
+fn small(dice: &mut Dice) -> u32 {
+    match dice.below(10) {
+        0 => dice.roll() as u32,
+        1 => 500 + dice.below(20),
+        2..=4 => dice.below(130),
+        _ => dice.below(6),
+    }
+}
+
+/// One call with any arguments, and what must hold of it.
+fn attempt(dice: &mut Dice, words: &mut [u32], length: usize, lists: &mut Lists) -> u32 {
+    lists.fill(dice);
+    lists.before.clear();
+    lists.before.extend_from_slice(words);
+    let (a, b, c, d, trail, out) = (lists.a.clone(), lists.b.clone(), lists.c.clone(), lists.d.clone(), lists.trail.clone(), lists.out);
+    let kind = dice.below(25);
+    let (number, reads) = made(kind, dice, words, length, lists);
+    assert!(number <= 12, "call {kind} answered {number}");
+    let lent_same = lists.a == a && lists.b == b && lists.c == c && lists.d == d && lists.trail == trail;
+    if number == 8 {
+        assert!(kind == 21, "call {kind} answered 8");
+        assert!(lent_same && [0, 1, 2, 4, 5].iter().all(|&i| lists.out[i] == out[i]), "8 changed an output");
+    } else if number != 0 {
+        assert!(words == lists.before.as_slice(), "call {kind} answered {number} and changed a word");
+        assert!(lent_same && lists.out == out, "call {kind} answered {number} and changed an output");
+    }
+    if reads {
+        assert!(words == lists.before.as_slice(), "call {kind} reads and changed a word");
+    }
+    let beyond = length.min(Store::size());
+    assert!(words[beyond..] == lists.before[beyond..], "call {kind} changed a word beyond the store");
+    if length < Store::size() {
+        assert!(number == 1, "call {kind} answered {number} on a short slice");
+    }
+    number
+}
+
+/// Makes the call; answers its number, and whether it only reads the store.
+fn made(kind: u32, dice: &mut Dice, words: &mut [u32], n: usize, lists: &mut Lists) -> (u32, bool) {
+    let s = words.as_mut_ptr();
+    let mut any = || small(dice);
+    let (p, q, r, t, u) = (any(), any(), any(), any(), any());
+    let few = |x: u32| if x < 100 { x % 3 } else { x };
+    let (a, b, c, d) = (&mut lists.a, &mut lists.b, &mut lists.c, &mut lists.d);
+    let out = lists.out.as_mut_ptr();
+    unsafe {
+        match kind {
+            0 if p < 3 => (raw::imb_fresh(s, n), false),
+            0 | 1 => (raw::imb_load_version_set(s, n, p, q), false),
+            2 => (raw::imb_load_union(s, n, p, a.as_ptr(), a.len()), false),
+            3 => (raw::imb_load_candidates(s, n, few(p), q, a.as_ptr(), a.len(), d.as_ptr(), d.len()), false),
+            4 => (raw::imb_load_disjunction(s, n, p, a.as_ptr(), a.len(), b.as_ptr(), b.len()), false),
+            5 => (raw::imb_load_condition(s, n, p, few(q), r, t), false),
+            6 => (raw::imb_register(s, n, p, few(q), r, if t < 5 { u32::MAX } else { t }, u), false),
+            7 => (raw::imb_mark_hot(s, n, p), false),
+            8 => (raw::imb_set_activity(s, n, p, f32::from_bits(dice.roll() as u32)), false),
+            9 => (raw::imb_set_mode(s, n, few(p)), false),
+            10 | 11 => (raw::imb_assign(s, n, p, few(q), r, t, out), false),
+            12 => (raw::imb_undo_last(s, n, out), false),
+            13 => (raw::imb_undo_until(s, n, p), false),
+            14 => (raw::imb_next_unpropagated(s, n, out), false),
+            15 => (raw::imb_value_of(s, n, p, out), true),
+            16 => (raw::imb_clause_of(s, n, p, out), true),
+            17 => (raw::imb_trail_length(s, n, out), true),
+            18 => (raw::imb_copy_trail(s, n, lists.trail.as_mut_ptr(), lists.trail.len(), out), true),
+            19 => (raw::imb_copy_candidates(s, n, few(p), q, a.as_mut_ptr(), a.len(), d.as_mut_ptr(), d.len(), out), true),
+            20 => (raw::imb_sync(s, n, out), false),
+            21 => (raw::imb_propose(s, n, out), false),
+            22 => (raw::imb_rewrite(s, n, p, a.as_mut_ptr(), a.len(), d.as_mut_ptr(), d.len(), out), true),
+            23 => {
+                a.iter_mut().for_each(|kind| *kind = few(*kind));
+                let number = raw::imb_disjunct_holds(
+                    s,
+                    n,
+                    a.as_ptr(),
+                    a.len(),
+                    b.as_ptr(),
+                    b.len(),
+                    c.as_ptr(),
+                    c.len(),
+                    d.as_ptr(),
+                    d.len(),
+                    out,
+                );
+                (number, true)
+            }
+            _ if p < 100 => (raw::imb_settings(s, n, out), true),
+            _ => (raw::imb_name(s, n, q, out), true),
+        }
+    }
+}

@@ -1,0 +1,491 @@
+//! Safe calls over Imbolaverk's decision queue.
+//!
+//! The library proves, for each call, its whole answer and the whole store that it leaves. This wrapper adds names: a [`Store`], a
+//! [`Refusal`] for each number, a [`Proposal`].
+//!
+//! ```
+//! use imbolaverk::{Condition, Requirement, Store};
+//!
+//! let mut store = Store::new();
+//! store.load_version_set(0, 0)?;
+//! store.load_candidates(Requirement::Single(0), &[&[1, 2, 3]])?;
+//! store.register(0, Requirement::Single(0), Condition::None, 10)?;
+//! store.assign(0, true, 1, 0)?;
+//! assert_eq!(store.sync()?, 1);
+//!
+//! let first = store.propose()?.proposal.expect("a clause is open");
+//! assert_eq!((first.candidate, first.clause, first.count), (1, 10, 3));
+//!
+//! // She tries the candidate and takes it back: the same proposal returns.
+//! store.assign(1, true, 2, 0)?;
+//! store.sync()?;
+//! store.undo_last()?;
+//! store.sync()?;
+//! assert_eq!(store.propose()?.proposal, Some(first));
+//! # Ok::<(), imbolaverk::Refusal>(())
+//! ```
+
+pub mod generate;
+pub mod original;
+pub mod raw;
+pub mod script;
+
+pub use raw::Decision;
+
+use std::fmt;
+
+/// Why a call was refused. But for a dead clause, a refused call has changed nothing.
+#[derive(Clone, Copy, Debug, PartialEq, Eq)]
+pub enum Refusal {
+    /// 1: the words are too few, or not of sound shape.
+    UnsoundStore,
+    /// 2: an id or a range is out of range or names something that is not loaded, or a value, sign, mode or kind is unknown.
+    UnknownId,
+    /// 3: a size or a lent list would be exceeded.
+    NoRoom,
+    /// 4: an assignment's level is 0, or a level is above 2,147,483,647.
+    BadLevel,
+    /// 5: the variable holds the other value.
+    OtherValue,
+    /// 6: undo has no entry to stop at.
+    NoEntryToStopAt,
+    /// 7: the store is not synced.
+    Unsynced,
+    /// 8: the walk reached a clause that has no candidate left.
+    DeadClause { clause: u32, dropped: u32 },
+    /// 9: an activity is NaN, infinite or has its sign bit set.
+    BadActivity,
+    /// 10: standard mode would hold a cold name with an activity above zero.
+    ColdActivity,
+    /// 11: a table is malformed.
+    Malformed,
+    /// 12: a thing is loaded twice.
+    LoadedTwice,
+}
+
+impl Refusal {
+    /// The number that the C entry points answer.
+    pub fn number(self) -> u32 {
+        match self {
+            Refusal::UnsoundStore => 1,
+            Refusal::UnknownId => 2,
+            Refusal::NoRoom => 3,
+            Refusal::BadLevel => 4,
+            Refusal::OtherValue => 5,
+            Refusal::NoEntryToStopAt => 6,
+            Refusal::Unsynced => 7,
+            Refusal::DeadClause { .. } => 8,
+            Refusal::BadActivity => 9,
+            Refusal::ColdActivity => 10,
+            Refusal::Malformed => 11,
+            Refusal::LoadedTwice => 12,
+        }
+    }
+
+    fn of(number: u32) -> Refusal {
+        match number {
+            1 => Refusal::UnsoundStore,
+            2 => Refusal::UnknownId,
+            3 => Refusal::NoRoom,
+            4 => Refusal::BadLevel,
+            5 => Refusal::OtherValue,
+            6 => Refusal::NoEntryToStopAt,
+            7 => Refusal::Unsynced,
+            9 => Refusal::BadActivity,
+            10 => Refusal::ColdActivity,
+            11 => Refusal::Malformed,
+            12 => Refusal::LoadedTwice,
+            _ => unreachable!("the library answers 0 to 12, and 8 only to a proposal"),
+        }
+    }
+}
+
+impl fmt::Display for Refusal {
+    fn fmt(&self, f: &mut fmt::Formatter<'_>) -> fmt::Result {
+        let said = match self {
+            Refusal::UnsoundStore => "the store is too short or not of sound shape",
+            Refusal::UnknownId => "an id is out of range or not loaded",
+            Refusal::NoRoom => "there is no room left",
+            Refusal::BadLevel => "the level is 0 or above 2,147,483,647",
+            Refusal::OtherValue => "the variable holds the other value",
+            Refusal::NoEntryToStopAt => "undo has no entry to stop at",
+            Refusal::Unsynced => "the store is not synced",
+            Refusal::DeadClause { clause, .. } => return write!(f, "clause {clause} has no candidate left"),
+            Refusal::BadActivity => "the activity is not a finite number from zero on",
+            Refusal::ColdActivity => "standard mode would hold a cold name with an activity above zero",
+            Refusal::Malformed => "the table is malformed",
+            Refusal::LoadedTwice => "it is loaded already",
+        };
+        f.write_str(said)
+    }
+}
+
+impl std::error::Error for Refusal {}
+
+/// A requirement: one version set, or a union of several.
+#[derive(Clone, Copy, Debug, PartialEq, Eq, Hash)]
+pub enum Requirement {
+    Single(u32),
+    Union(u32),
+}
+
+impl Requirement {
+    fn words(self) -> (u32, u32) {
+        match self {
+            Requirement::Single(id) => (0, id),
+            Requirement::Union(id) => (1, id),
+        }
+    }
+}
+
+/// A clause's condition: none, or a loaded disjunction.
+#[derive(Clone, Copy, Debug, PartialEq, Eq)]
+pub enum Condition {
+    None,
+    Disjunction(u32),
+}
+
+/// A node of a condition tree.
+#[derive(Clone, Copy, Debug, PartialEq, Eq)]
+pub enum Node {
+    Leaf { version_set: u32 },
+    And { left: u32, right: u32 },
+    Or { left: u32, right: u32 },
+}
+
+/// A conjunct of a disjunct: the candidates of a version set, or none of them.
+#[derive(Clone, Debug, PartialEq, Eq)]
+pub enum Conjunct {
+    Solvables(Vec<u32>),
+    Empty,
+}
+
+/// "Settle this next."
+#[derive(Clone, Copy, Debug, PartialEq)]
+pub struct Proposal {
+    pub candidate: u32,
+    pub parent: u32,
+    pub clause: u32,
+    pub activity: f32,
+    pub count: u32,
+}
+
+/// What a store says when it is asked for a proposal.
+#[derive(Clone, Copy, Debug, PartialEq)]
+pub struct Asked {
+    /// Nothing is left to settle if there is none.
+    pub proposal: Option<Proposal>,
+    /// How many clauses left the queue by this call.
+    pub dropped: u32,
+}
+
+/// What an assignment did.
+#[derive(Clone, Copy, Debug, PartialEq, Eq)]
+pub enum Assigned {
+    New,
+    Already,
+}
+
+/// A popped entry, and the level of the entry that is now the last.
+#[derive(Clone, Copy, Debug, PartialEq, Eq)]
+pub struct Popped {
+    pub decision: Decision,
+    pub level: u32,
+}
+
+/// A whole store in words of its own.
+#[derive(Clone, Debug, PartialEq, Eq)]
+pub struct Store {
+    words: Vec<u32>,
+}
+
+impl Default for Store {
+    fn default() -> Self {
+        Store::new()
+    }
+}
+
+fn done(number: u32) -> Result<(), Refusal> {
+    if number == 0 {
+        Ok(())
+    } else {
+        Err(Refusal::of(number))
+    }
+}
+
+impl Store {
+    /// How many words a store needs.
+    pub fn size() -> usize {
+        unsafe { raw::imb_words() }
+    }
+
+    /// A fresh store: no tables, no clauses, an empty trail, standard mode.
+    pub fn new() -> Store {
+        let mut store = Store { words: vec![0; Store::size()] };
+        store.make_fresh().expect("a store of this size can be made fresh");
+        store
+    }
+
+    /// Any words as a store; every call on words of unsound shape is refused.
+    pub fn from_words(words: Vec<u32>) -> Store {
+        Store { words }
+    }
+
+    /// The words, for keeping a store or looking at it.
+    pub fn words(&self) -> &[u32] {
+        &self.words
+    }
+
+    fn lent(&mut self) -> (*mut u32, usize) {
+        (self.words.as_mut_ptr(), self.words.len())
+    }
+
+    fn read(&self) -> (*const u32, usize) {
+        (self.words.as_ptr(), self.words.len())
+    }
+
+    pub fn make_fresh(&mut self) -> Result<(), Refusal> {
+        let (s, n) = self.lent();
+        done(unsafe { raw::imb_fresh(s, n) })
+    }
+
+    pub fn load_version_set(&mut self, version_set: u32, name: u32) -> Result<(), Refusal> {
+        let (s, n) = self.lent();
+        done(unsafe { raw::imb_load_version_set(s, n, version_set, name) })
+    }
+
+    pub fn load_union(&mut self, union: u32, members: &[u32]) -> Result<(), Refusal> {
+        let (s, n) = self.lent();
+        done(unsafe { raw::imb_load_union(s, n, union, members.as_ptr(), members.len()) })
+    }
+
+    /// Loads a requirement's candidates, a list for each of its version sets.
+    pub fn load_candidates(&mut self, requirement: Requirement, lists: &[&[u32]]) -> Result<(), Refusal> {
+        let lengths: Vec<u32> = lists.iter().map(|list| list.len() as u32).collect();
+        let cells = lists.concat();
+        let (kind, id) = requirement.words();
+        let (s, n) = self.lent();
+        done(unsafe { raw::imb_load_candidates(s, n, kind, id, lengths.as_ptr(), lengths.len(), cells.as_ptr(), cells.len()) })
+    }
+
+    /// Loads a disjunction of literals, each a variable and whether it is negated.
+    pub fn load_disjunction(&mut self, disjunction: u32, literals: &[(u32, bool)]) -> Result<(), Refusal> {
+        let variables: Vec<u32> = literals.iter().map(|literal| literal.0).collect();
+        let signs: Vec<u32> = literals.iter().map(|literal| literal.1 as u32).collect();
+        let (s, n) = self.lent();
+        done(unsafe {
+            raw::imb_load_disjunction(s, n, disjunction, variables.as_ptr(), variables.len(), signs.as_ptr(), signs.len())
+        })
+    }
+
+    pub fn load_condition(&mut self, node: u32, content: Node) -> Result<(), Refusal> {
+        let (kind, left, right) = match content {
+            Node::Leaf { version_set } => (0, version_set, 0),
+            Node::And { left, right } => (1, left, right),
+            Node::Or { left, right } => (2, left, right),
+        };
+        let (s, n) = self.lent();
+        done(unsafe { raw::imb_load_condition(s, n, node, kind, left, right) })
+    }
+
+    pub fn register(&mut self, parent: u32, requirement: Requirement, condition: Condition, clause: u32) -> Result<(), Refusal> {
+        let (kind, id) = requirement.words();
+        let condition = match condition {
+            Condition::None => u32::MAX,
+            Condition::Disjunction(id) => id,
+        };
+        let (s, n) = self.lent();
+        done(unsafe { raw::imb_register(s, n, parent, kind, id, condition, clause) })
+    }
+
+    pub fn mark_hot(&mut self, name: u32) -> Result<(), Refusal> {
+        let (s, n) = self.lent();
+        done(unsafe { raw::imb_mark_hot(s, n, name) })
+    }
+
+    pub fn set_activity(&mut self, name: u32, activity: f32) -> Result<(), Refusal> {
+        let (s, n) = self.lent();
+        done(unsafe { raw::imb_set_activity(s, n, name, activity) })
+    }
+
+    /// Standard mode, or not.
+    pub fn set_mode(&mut self, standard: bool) -> Result<(), Refusal> {
+        let (s, n) = self.lent();
+        done(unsafe { raw::imb_set_mode(s, n, standard as u32) })
+    }
+
+    pub fn assign(&mut self, variable: u32, value: bool, level: u32, clause: u32) -> Result<Assigned, Refusal> {
+        let mut out = [0];
+        let (s, n) = self.lent();
+        done(unsafe { raw::imb_assign(s, n, variable, value as u32, level, clause, out.as_mut_ptr()) })?;
+        Ok(if out[0] == 1 { Assigned::New } else { Assigned::Already })
+    }
+
+    pub fn undo_last(&mut self) -> Result<Popped, Refusal> {
+        let mut out = [0; 4];
+        let (s, n) = self.lent();
+        done(unsafe { raw::imb_undo_last(s, n, out.as_mut_ptr()) })?;
+        let [variable, value, clause, level] = out;
+        Ok(Popped { decision: Decision { variable, value, clause }, level })
+    }
+
+    pub fn undo_until(&mut self, level: u32) -> Result<(), Refusal> {
+        let (s, n) = self.lent();
+        done(unsafe { raw::imb_undo_until(s, n, level) })
+    }
+
+    pub fn next_unpropagated(&mut self) -> Result<Option<Decision>, Refusal> {
+        let mut out = [0; 4];
+        let (s, n) = self.lent();
+        done(unsafe { raw::imb_next_unpropagated(s, n, out.as_mut_ptr()) })?;
+        let [found, variable, value, clause] = out;
+        Ok((found == 1).then_some(Decision { variable, value, clause }))
+    }
+
+    /// A variable's value and level, if it has them.
+    pub fn value_of(&self, variable: u32) -> Result<Option<(bool, u32)>, Refusal> {
+        let mut out = [0; 2];
+        let (s, n) = self.read();
+        done(unsafe { raw::imb_value_of(s, n, variable, out.as_mut_ptr()) })?;
+        Ok((out[0] != 2).then_some((out[0] == 1, out[1])))
+    }
+
+    pub fn clause_of(&self, variable: u32) -> Result<Option<u32>, Refusal> {
+        let mut out = [0; 2];
+        let (s, n) = self.read();
+        done(unsafe { raw::imb_clause_of(s, n, variable, out.as_mut_ptr()) })?;
+        Ok((out[0] == 1).then_some(out[1]))
+    }
+
+    pub fn trail_length(&self) -> Result<usize, Refusal> {
+        let mut out = [0];
+        let (s, n) = self.read();
+        done(unsafe { raw::imb_trail_length(s, n, out.as_mut_ptr()) })?;
+        Ok(out[0] as usize)
+    }
+
+    /// The whole trail, into a list of `room` decisions; a shorter one is refused.
+    pub fn trail_in(&self, room: usize) -> Result<Vec<Decision>, Refusal> {
+        let mut list = vec![Decision::default(); room];
+        let mut out = [0];
+        let (s, n) = self.read();
+        done(unsafe { raw::imb_copy_trail(s, n, list.as_mut_ptr(), list.len(), out.as_mut_ptr()) })?;
+        list.truncate(out[0] as usize);
+        Ok(list)
+    }
+
+    pub fn trail(&self) -> Result<Vec<Decision>, Refusal> {
+        self.trail_in(512)
+    }
+
+    /// A requirement's candidate lists, as they were loaded.
+    pub fn candidates(&self, requirement: Requirement) -> Result<Vec<Vec<u32>>, Refusal> {
+        let mut lengths = [0; 8];
+        let mut cells = [0; 2048];
+        let mut out = [0; 2];
+        let (kind, id) = requirement.words();
+        let (s, n) = self.read();
+        done(unsafe {
+            raw::imb_copy_candidates(s, n, kind, id, lengths.as_mut_ptr(), 8, cells.as_mut_ptr(), 2048, out.as_mut_ptr())
+        })?;
+        Ok(parted(&lengths[..out[0] as usize], &cells))
+    }
+
+    /// The terms of a rewritten condition, in a list of `terms` lengths and one of `cells` version sets.
+    pub fn rewrite_in(&self, node: u32, terms: usize, cells: usize) -> Result<Vec<Vec<u32>>, Refusal> {
+        let mut lengths = vec![0; terms];
+        let mut sets = vec![0; cells];
+        let mut out = [0; 2];
+        let (s, n) = self.read();
+        done(unsafe {
+            raw::imb_rewrite(s, n, node, lengths.as_mut_ptr(), lengths.len(), sets.as_mut_ptr(), sets.len(), out.as_mut_ptr())
+        })?;
+        Ok(parted(&lengths[..out[0] as usize], &sets))
+    }
+
+    pub fn rewrite(&self, node: u32) -> Result<Vec<Vec<u32>>, Refusal> {
+        self.rewrite_in(node, 64, 1024)
+    }
+
+    /// Whether a disjunct holds: each conjunct has a candidate that is true.
+    pub fn disjunct_holds(&self, conjuncts: &[Conjunct]) -> Result<bool, Refusal> {
+        let (mut kinds, mut starts, mut lengths, mut cells) = (vec![], vec![], vec![], vec![]);
+        for conjunct in conjuncts {
+            let (kind, own): (u32, &[u32]) = match conjunct {
+                Conjunct::Solvables(own) => (0, own),
+                Conjunct::Empty => (1, &[]),
+            };
+            kinds.push(kind);
+            starts.push(cells.len() as u32);
+            lengths.push(own.len() as u32);
+            cells.extend_from_slice(own);
+        }
+        let mut out = [0];
+        let (s, n) = self.read();
+        done(unsafe {
+            raw::imb_disjunct_holds(
+                s,
+                n,
+                kinds.as_ptr(),
+                kinds.len(),
+                starts.as_ptr(),
+                starts.len(),
+                lengths.as_ptr(),
+                lengths.len(),
+                cells.as_ptr(),
+                cells.len(),
+                out.as_mut_ptr(),
+            )
+        })?;
+        Ok(out[0] == 1)
+    }
+
+    /// Brings the queue up to date; answers the number of touches.
+    pub fn sync(&mut self) -> Result<u32, Refusal> {
+        let mut out = [0];
+        let (s, n) = self.lent();
+        done(unsafe { raw::imb_sync(s, n, out.as_mut_ptr()) })?;
+        Ok(out[0])
+    }
+
+    pub fn propose(&mut self) -> Result<Asked, Refusal> {
+        let mut out = [0; 7];
+        let (s, n) = self.lent();
+        let number = unsafe { raw::imb_propose(s, n, out.as_mut_ptr()) };
+        let [found, candidate, parent, clause, activity, count, dropped] = out;
+        if number == 8 {
+            return Err(Refusal::DeadClause { clause, dropped });
+        }
+        done(number)?;
+        let proposal = Proposal { candidate, parent, clause, activity: f32::from_bits(activity), count };
+        Ok(Asked { proposal: (found == 1).then_some(proposal), dropped })
+    }
+
+    /// Whether the store is in standard mode.
+    pub fn is_standard(&self) -> Result<bool, Refusal> {
+        let mut out = [0];
+        let (s, n) = self.read();
+        done(unsafe { raw::imb_settings(s, n, out.as_mut_ptr()) })?;
+        Ok(out[0] == 1)
+    }
+
+    /// A name's activity, and whether it is hot.
+    pub fn name(&self, name: u32) -> Result<(f32, bool), Refusal> {
+        let mut out = [0; 2];
+        let (s, n) = self.read();
+        done(unsafe { raw::imb_name(s, n, name, out.as_mut_ptr()) })?;
+        Ok((f32::from_bits(out[0]), out[1] == 1))
+    }
+}
+
+fn parted(lengths: &[u32], cells: &[u32]) -> Vec<Vec<u32>> {
+    let mut rest = cells;
+    lengths
+        .iter()
+        .map(|&length| {
+            let (part, behind) = rest.split_at(length as usize);
+            rest = behind;
+            part.to_vec()
+        })
+        .collect()
+}
