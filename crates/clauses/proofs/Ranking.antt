@@ -6,9 +6,9 @@ use Prim.Native.Nat.{ℕ, zero, suc, _-_, _≤_, _<_}
 use native.Mathlib.Omega.{arith}
 use borrow.Author.Tests.{eq-eqb, ne-eqb}
 use lib.Dec.{eqb}
-use Rattle.clauses.specs.Record.{behindLast}
+use Rattle.clauses.specs.Record.{behindLast, rankOf}
 use Rattle.store.specs.Area.{at}
-use Rattle.store.specs.Layout.{clauseParents}
+use Rattle.store.specs.Layout.{clauseCount, clauseParents}
 
 pub behind-hit : (w : List ℕ) (parent n k : ℕ) → behindLast w parent n n ≡ behindLast w parent n k → 0 < k → at clauseParents (k - 1) w ≡ parent → k ≡ behindLast w parent n n
 unfolding behindLast
@@ -42,3 +42,6 @@ behind-most w parent n (suc k) h = go (eqb (at clauseParents k w) parent) (behin
     go : (b : Bool) → behindLast w parent n k ≤ n → cond b (suc k) (behindLast w parent n k) ≤ n
     go true l = omega arith
     go false l = l
+
+pub rank-most : (w : List ℕ) (parent : ℕ) → rankOf w parent ≤ at clauseCount 0 w
+rank-most w parent = behind-most w parent (at clauseCount 0 w) (at clauseCount 0 w) (omega arith)

@@ -8,14 +8,15 @@ use borrow.Author.Tests.{ltb-true, leb-true, ne-eqb}
 use lib.Dec.{leb, ltb, eqb}
 use Rattle.clauses.specs.Names.{distinctNames}
 use Rattle.clauses.specs.Record.{rankOf}
-use Rattle.clauses.specs.Register.{hasTable, knownCondition, conditionWord, literalCountOf, allNamed, hasRoom, registerIn, Placed, queuedMark, recordIn, registered, registerLeft}
-use Rattle.requirement.specs.Load.{known}
-use Rattle.requirement.specs.Tables.{keyOf, requirementOf, keyAt}
-use Rattle.requirement.specs.declared.Requirement.the-variants.{Single, Union}
+use Rattle.clauses.specs.Register.{knownCondition, conditionWord, literalCountOf, allNamed, hasRoom, registerIn, Placed, queuedMark, recordIn, registered, registerLeft}
+use Rattle.requirement.proofs.Copying.{tabled-named}
+use Rattle.requirement.proofs.Parts.{named-key as key-small}
+use Rattle.requirement.specs.Copy.{tabled}
+use Rattle.requirement.specs.Tables.{requirementOf, keyAt}
 use Rattle.store.proofs.Choice.{both}
 use Rattle.store.specs.Area.{at, put}
-use Rattle.store.specs.Layout.{queued, clauseCount, conditionTotal, nameTotal, clauseParents, clauseRequirements, clauseConditions, clauseIds, tablesLoaded, disjunctionSizes}
-use Rattle.store.specs.Limits.{variables, clauses, names, versionSets, unions, disjunctions, literalRoom, conditionRoom, nameRoom, lastWord, requirements, mostDisjunctionSize}
+use Rattle.store.specs.Layout.{queued, clauseCount, conditionTotal, nameTotal, clauseParents, clauseRequirements, clauseConditions, clauseIds, disjunctionSizes}
+use Rattle.store.specs.Limits.{variables, clauses, disjunctions, literalRoom, conditionRoom, nameRoom, lastWord, requirements, mostDisjunctionSize}
 use Rattle.store.specs.Ranks.{inserted}
 use Rattle.store.specs.Shape.{Sound}
 use Rattle.tables.proofs.Loading.{loaded-small}
@@ -39,35 +40,16 @@ literals-few w condition h = go (eqb condition lastWord)
     go true = omega arith
     go false = omega (arith, h .ranges disjunctionSizes mostDisjunctionSize tt condition)
 
--- a requirement that has a table has a key
-pub table-key : (w : List ℕ) (kind requirement : ℕ) → hasTable w kind requirement ≡ true → keyAt kind requirement < requirements
-unfolding hasTable requirementOf
-table-key w kind requirement e = go (eqb kind 0) e
-  where
-    single : Bool
-    single = not (eqb (at tablesLoaded requirement w) 0)
-
-    union : Bool
-    union = not (eqb (at tablesLoaded (versionSets + requirement) w) 0)
-
-    go : (b : Bool) → cond b (ltb requirement versionSets && single) (eqb kind 1 && ltb requirement unions && union) ≡ true → keyOf (cond b (Single requirement) (Union requirement)) < requirements
-    go true f =
-        let l = ltb-true requirement versionSets (both (ltb requirement versionSets) single f .0) in
-        omega arith
-    go false f =
-        let l = ltb-true requirement unions (both (eqb kind 1) (ltb requirement unions) (both (eqb kind 1 && ltb requirement unions) union f .0) .1) in
-        omega arith
-
 module _ (w : List ℕ) (parent kind requirement condition : ℕ) (e : allNamed w parent kind requirement condition ≡ true) where
-  tests2 : (ltb parent variables && hasTable w kind requirement ≡ true) × (knownCondition w condition ≡ true)
+  tests2 : (ltb parent variables && tabled w kind requirement ≡ true) × (knownCondition w condition ≡ true)
   unfolding allNamed
-  tests2 = both (ltb parent variables && hasTable w kind requirement) (knownCondition w condition) e
+  tests2 = both (ltb parent variables && tabled w kind requirement) (knownCondition w condition) e
 
   pub named-parent : parent < variables
-  named-parent = ltb-true parent variables (both (ltb parent variables) (hasTable w kind requirement) (tests2 .0) .0)
+  named-parent = ltb-true parent variables (both (ltb parent variables) (tabled w kind requirement) (tests2 .0) .0)
 
   pub named-key : keyAt kind requirement < requirements
-  named-key = table-key w kind requirement (both (ltb parent variables) (hasTable w kind requirement) (tests2 .0) .1)
+  named-key = key-small (requirementOf kind requirement) (tabled-named w kind requirement (both (ltb parent variables) (tabled w kind requirement) (tests2 .0) .1))
 
   pub named-condition : knownCondition w condition ≡ true
   named-condition = tests2 .1

@@ -6,10 +6,11 @@ use Prim.Native.Nat.{ℕ, _+_, _≤_, _<_}
 use lib.Dec.{leb, ltb, eqb}
 use Rattle.clauses.specs.Names.{distinctNames}
 use Rattle.clauses.specs.Record.{rankOf}
+use Rattle.requirement.specs.Copy.{tabled}
 use Rattle.requirement.specs.Tables.{keyAt}
 use Rattle.store.specs.Area.{at, put}
-use Rattle.store.specs.Layout.{queued, map, clauseCount, conditionTotal, nameTotal, clauseParents, clauseRequirements, clauseConditions, clauseIds, tablesLoaded}
-use Rattle.store.specs.Limits.{variables, clauses, versionSets, unions, conditionRoom, nameRoom, lastWord, requirements}
+use Rattle.store.specs.Layout.{queued, map, clauseCount, conditionTotal, nameTotal, clauseParents, clauseRequirements, clauseConditions, clauseIds}
+use Rattle.store.specs.Limits.{variables, clauses, conditionRoom, nameRoom, lastWord, requirements}
 use Rattle.store.specs.Ranks.{inserted}
 use Rattle.store.specs.Shape.{soundShape}
 use Rattle.tables.specs.Disjunction.{disjunctionLoaded, literalsOf}
@@ -17,13 +18,6 @@ use Rattle.trail.specs.Cell.{cellSide}
 use Rattle.clauses.specs.declared.Registered.{Registered}
 use Rattle.clauses.specs.declared.Registered.the-variants.{Done, Refused}
 use Rattle.tables.specs.declared.Literals.{Literals}
-
--- "an id is out of range, or names something not loaded; a kind number is unknown": the requirement's candidate table is loaded
-unfoldable pub hasTable : List ℕ → ℕ → ℕ → Bool
-hasTable w kind requirement =
-    cond (eqb kind 0)
-    (ltb requirement versionSets && not (eqb (at tablesLoaded requirement w) 0))
-    (eqb kind 1 && ltb requirement unions && not (eqb (at tablesLoaded (versionSets + requirement) w) 0))
 
 -- 4,294,967,295 for no condition, else a loaded disjunction
 unfoldable pub knownCondition : List ℕ → ℕ → Bool
@@ -37,9 +31,9 @@ conditionWord condition = cond (eqb condition lastWord) 0 (condition + 1)
 unfoldable pub literalCountOf : List ℕ → ℕ → ℕ
 literalCountOf w condition = cond (eqb condition lastWord) 0 (literalsOf w condition .count)
 
--- everything that the clause names is there
+-- "an id is out of range, or names something not loaded; a kind number is unknown": everything that the clause names is there
 unfoldable pub allNamed : List ℕ → ℕ → ℕ → ℕ → ℕ → Bool
-allNamed w parent kind requirement condition = ltb parent variables && hasTable w kind requirement && knownCondition w condition
+allNamed w parent kind requirement condition = ltb parent variables && tabled w kind requirement && knownCondition w condition
 
 -- "Clauses 512. The sum over registered clauses of their condition's literals is at most 1,024, and the sum of their distinct names
 -- at most 1,024."

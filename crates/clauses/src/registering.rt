@@ -4,13 +4,13 @@ ghost use mathlib.Core.Path.{_≡_};
 ghost use Prim.Native.Nat.{_+_, _≤_, _<_};
 ghost use lib.ListN.{length};
 ghost use Rattle.store.specs.Layout.{words};
-ghost use Rattle.store.specs.Limits.{clauses, variables, requirements, unionRoom, unionLists, disjunctions};
+ghost use Rattle.store.specs.Limits.{clauses, variables, requirements, lists};
 ghost use Rattle.store.specs.Shape.{Sound};
-ghost use Rattle.requirement.specs.Tables.{keyAt};
-ghost use Rattle.clauses.specs.Names.{memberName, newName, nameCount, newNames, distinctNames};
-ghost use Rattle.clauses.specs.Register.{hasTable, knownCondition, conditionWord, literalCountOf, allNamed, hasRoom, registerIn, queuedMark, recordIn, Placed, registered, registerInStore};
+ghost use Rattle.clauses.specs.Names.{newName, nameCount, newNames, distinctNames};
+ghost use Rattle.clauses.specs.Register.{knownCondition, conditionWord, literalCountOf, allNamed, hasRoom, registerIn, queuedMark, recordIn, Placed, registered, registerInStore};
 use crate::Registered;
 use crate::records;
+use requirement::candidates;
 use store::areas;
 use store::limits;
 use store::ranks;
@@ -20,22 +20,14 @@ use store::write;
 use tables::disjunction;
 use trail::decision_map;
 
-// The name of the version set at a place of the unions' members, as it is stored.
-fn name_at(s: &[u32], place: usize) -> u32
-    requires { ⌜ (Sound (now s)) × (place < unionLists) ⌝ }
-    ensures { λ r. ⌜ r ≡ memberName (now (s .entry)) place ⌝ }
-{
-    read::set_name(s, wide(read::union_set(s, place)))
-}
-
-// Whether no member before member i of the union whose places begin at `first` has its name.
+// Whether no list before list i of those that begin at `first` has its name.
 fn new_name(s: &[u32], first: usize, i: usize) -> bool
-    requires { ⌜ (Sound (now s)) × (i < unionRoom) × (first + unionRoom ≤ unionLists) ⌝ }
+    requires { ⌜ (Sound (now s)) × (first + i < lists) ⌝ }
     ensures { λ r. ⌜ r ≡ newName (now (s .entry)) first i ⌝ }
 {
     let mut j: usize = 0;
     while j < i {
-        if name_at(s, first + j) == name_at(s, first + i) {
+        if candidates::name_at(s, first + j) == candidates::name_at(s, first + i) {
             return false;
         }
         j += 1;
@@ -43,9 +35,9 @@ fn new_name(s: &[u32], first: usize, i: usize) -> bool
     true
 }
 
-// How many names member i adds.
+// How many names list i adds.
 fn name_count(s: &[u32], first: usize, i: usize) -> usize
-    requires { ⌜ (Sound (now s)) × (i < unionRoom) × (first + unionRoom ≤ unionLists) ⌝ }
+    requires { ⌜ (Sound (now s)) × (first + i < lists) ⌝ }
     ensures { λ r. ⌜ r ≡ nameCount (now (s .entry)) first i ⌝ }
 {
     if new_name(s, first, i) {
@@ -54,9 +46,9 @@ fn name_count(s: &[u32], first: usize, i: usize) -> usize
     0
 }
 
-// How many distinct names the first n members have.
+// How many distinct names the first n lists have.
 fn new_names(s: &[u32], first: usize, n: usize) -> usize
-    requires { ⌜ (Sound (now s)) × (n ≤ unionRoom) × (first + unionRoom ≤ unionLists) ⌝ }
+    requires { ⌜ (Sound (now s)) × (first + n ≤ lists) ⌝ }
     ensures { λ r. ⌜ r ≡ newNames (now (s .entry)) first n ⌝ }
 {
     let mut count: usize = 0;
@@ -73,44 +65,11 @@ fn names_of(s: &[u32], key: usize) -> usize
     requires { ⌜ (Sound (now s)) × (key < requirements) ⌝ }
     ensures { λ r. ⌜ r ≡ distinctNames (now (s .entry)) key ⌝ }
 {
-    if key < limits::VERSION_SETS {
-        return 1;
-    }
-    let union = key - limits::VERSION_SETS;
-    let stored = wide(read::union_size(s, union));
-    if stored == 0 {
-        return 0;
-    }
-    new_names(s, limits::UNION_ROOM * union, stored - 1)
-}
-
-// The key of a requirement.
-fn key_of(kind: u32, requirement: u32) -> usize
-    ensures { λ r. ⌜ r ≡ keyAt kind requirement ⌝ }
-{
-    if kind == 0 {
-        return wide(requirement);
-    }
-    limits::VERSION_SETS + wide(requirement)
-}
-
-// Whether a kind and an id name a requirement whose candidate table is loaded.
-fn is_tabled(s: &[u32], kind: u32, requirement: u32) -> bool
-    requires { ⌜ words ≤ length (now s) ⌝ }
-    ensures { λ r. ⌜ r ≡ hasTable (now (s .entry)) kind requirement ⌝ }
-{
-    if kind == 0 {
-        if requirement < limits::VERSION_SETS as u32 {
-            return read::table_loaded(s, wide(requirement)) != 0;
-        }
-        return false;
-    }
-    if kind == 1 {
-        if requirement < limits::UNIONS as u32 {
-            return read::table_loaded(s, limits::VERSION_SETS + wide(requirement)) != 0;
-        }
-    }
-    false
+    new_names(
+        s,
+        candidates::first_slot(key),
+        candidates::set_count(s, key),
+    )
 }
 
 // Whether a condition is none or a loaded disjunction.
@@ -152,7 +111,7 @@ fn is_named(s: &[u32], parent: u32, kind: u32, requirement: u32, condition: u32)
     ensures { λ r. ⌜ r ≡ allNamed (now (s .entry)) parent kind requirement condition ⌝ }
 {
     if parent < limits::VARIABLES as u32 {
-        if is_tabled(s, kind, requirement) {
+        if candidates::is_tabled(s, kind, requirement) {
             return is_known(s, condition);
         }
     }
@@ -182,7 +141,8 @@ fn register_case(s: &[u32], parent: u32, kind: u32, requirement: u32, condition:
     if is_named(s, parent, kind, requirement, condition) {} else {
         return Registered::Refused(2);
     }
-    if has_room(s, key_of(kind, requirement), condition) {} else {
+    let key = candidates::key_of(candidates::requirement_of(kind, requirement));
+    if has_room(s, key, condition) {} else {
         return Registered::Refused(3);
     }
     Registered::Done
@@ -284,7 +244,10 @@ pub fn register(
 {
     let r = register_case(s, parent, kind, requirement, condition);
     match r {
-        Registered::Done => put_in(s, parent, key_of(kind, requirement), condition, clause),
+        Registered::Done => {
+            let key = candidates::key_of(candidates::requirement_of(kind, requirement));
+            put_in(s, parent, key, condition, clause)
+        }
         Registered::Refused(_) => {}
     }
     r

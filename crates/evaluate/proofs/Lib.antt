@@ -3,4 +3,5 @@ pub mod Turns
 pub mod Cells
 pub mod Scans
 pub mod Literals
+pub mod Froms
 pub mod Frames

@@ -13,7 +13,7 @@ use Rattle.rules.specs.Store.{Reached}
 use Rattle.rules.specs.Sync.{Entry, value}
 use Rattle.store.proofs.AreaLaws.{area-same, at-same, within}
 use Rattle.store.specs.Area.{Area, area, at}
-use Rattle.store.specs.Layout.{clauseConditions, clauseCount, disjunctionSizes, disjunctionStarts, environmentRegion, literalCount, map, setNames, tablesLoaded, trailLength, trailRegion, trailVariables, unionSets, unionSizes}
+use Rattle.store.specs.Layout.{clauseConditions, clauseCount, clausesRegion, disjunctionSizes, disjunctionStarts, environmentRegion, literalCount, map, setNames, tablesLoaded, tablesRegion, trailLength, trailRegion, trailVariables, unionSets, unionSizes}
 use Rattle.store.specs.Limits.{unionRoom, unions, versionSets}
 use Rattle.store.specs.Shape.{Sound}
 use Rattle.trail.specs.declared.Value.{Value}
@@ -39,35 +39,48 @@ pub record Genuine (w : List ℕ) : Type 0 where
   pub reached : Reached (storeOf w)
 
 -- what is outside the trail's region does not matter to the map
-pub mapped-frame : (s w : List ℕ) → area trailRegion s ≡ area trailRegion w → Mapped w → Mapped s
-mapped-frame s w e m =
+pub mapped-same : (s w : List ℕ) → assigned s ≡ assigned w → trailOf s ≡ trailOf w → at trailLength 0 s ≡ at trailLength 0 w → ((k : ℕ) → at trailVariables k s ≡ at trailVariables k w) → Mapped w → Mapped s
+mapped-same s w a e n x m =
     record {
-      told = λ v. ap (λ (f : ℕ → Value). f v) (assigned-same s w (area-same map trailRegion s w tt e)) ∙ m .told v ∙ ap (λ (d : List Entry). value d v) (sym (trail-same s w e));
+      told = λ v. ap (λ (f : ℕ → Value). f v) a ∙ m .told v ∙ ap (λ (d : List Entry). value d v) (sym e);
       once =
           λ k h.
-          ap (λ (d : List Entry). value (take k d) (at trailVariables k s)) (trail-same s w e)
-          ∙ ap (λ (v : ℕ). value (take k (trailOf w)) v) (at-same trailVariables trailRegion s w tt e k)
-          ∙ m .once k (rw (at-same trailLength trailRegion s w tt e 0) at h);
+          ap (λ (d : List Entry). value (take k d) (at trailVariables k s)) e
+          ∙ ap (λ (v : ℕ). value (take k (trailOf w)) v) (x k)
+          ∙ m .once k (rw n at h);
     }
 
--- and to what is loaded only settings, clauses and tables do
-pub rooted-frame : (s w : List ℕ) → area environmentRegion s ≡ area environmentRegion w → Rooted w → Rooted s
-rooted-frame s w e r =
-    record {
-      singles = λ v l h. rw (here setNames tt v) (r .singles v l (rw (here tablesLoaded tt v) at h));
-      unions-known = λ u l h. rw (here unionSizes tt u) (r .unions-known u l (rw (here tablesLoaded tt (versionSets + u)) at h));
-      members =
-          λ u j l h.
-          rw (here unionSets tt (unionRoom * u + j), here setNames tt (at unionSets (unionRoom * u + j) w))
-          (r .members u j l (rw (here unionSizes tt u) at h));
-      conditions =
-          λ k l h.
-          rw (here clauseConditions tt k, here disjunctionSizes tt (at clauseConditions k w - 1))
-          (r .conditions k (rw (here clauseCount tt 0) at l) (rw (here clauseConditions tt k) at h));
-      literals =
-          λ d h.
-          rw (here disjunctionStarts tt d, here disjunctionSizes tt d, here literalCount tt 0) (r .literals d (rw (here disjunctionSizes tt d) at h));
-    }
-  where
-    here : (a : Area) → T (within a environmentRegion) → (i : ℕ) → at a i s ≡ at a i w
-    here a t i = at-same a environmentRegion s w t e i
+pub mapped-frame : (s w : List ℕ) → area trailRegion s ≡ area trailRegion w → Mapped w → Mapped s
+mapped-frame s w e =
+    mapped-same s w (assigned-same s w (area-same map trailRegion s w tt e)) (trail-same s w e) (at-same trailLength trailRegion s w tt e 0) (at-same trailVariables trailRegion s w tt e)
+
+-- and to what is loaded only the tables do, and the clauses' conditions
+module _ (s w : List ℕ) where
+  pub rooted-by-tables : area tablesRegion s ≡ area tablesRegion w → Rooted w → ((k : ℕ) → k < at clauseCount 0 s → at clauseConditions k s ≢ 0 → at disjunctionSizes (at clauseConditions k s - 1) w ≢ 0) → Rooted s
+  rooted-by-tables e r c =
+      record {
+        singles = λ v l h. rw (here setNames tt v) (r .singles v l (rw (here tablesLoaded tt v) at h));
+        unions-known = λ u l h. rw (here unionSizes tt u) (r .unions-known u l (rw (here tablesLoaded tt (versionSets + u)) at h));
+        members =
+            λ u j l h.
+            rw (here unionSets tt (unionRoom * u + j), here setNames tt (at unionSets (unionRoom * u + j) w))
+            (r .members u j l (rw (here unionSizes tt u) at h));
+        conditions = λ k l h. rw (here disjunctionSizes tt (at clauseConditions k s - 1)) (c k l h);
+        literals =
+            λ d h.
+            rw (here disjunctionStarts tt d, here disjunctionSizes tt d, here literalCount tt 0) (r .literals d (rw (here disjunctionSizes tt d) at h));
+      }
+    where
+      here : (a : Area) → T (within a tablesRegion) → (i : ℕ) → at a i s ≡ at a i w
+      here a t i = at-same a tablesRegion s w t e i
+
+  pub rooted-same : area clausesRegion s ≡ area clausesRegion w → area tablesRegion s ≡ area tablesRegion w → Rooted w → Rooted s
+  rooted-same c e r =
+      rooted-by-tables e r
+      (λ k l h. rw (clause clauseConditions tt k) (r .conditions k (rw (clause clauseCount tt 0) at l) (rw (clause clauseConditions tt k) at h)))
+    where
+      clause : (a : Area) → T (within a clausesRegion) → (i : ℕ) → at a i s ≡ at a i w
+      clause a t i = at-same a clausesRegion s w t c i
+
+  pub rooted-frame : area environmentRegion s ≡ area environmentRegion w → Rooted w → Rooted s
+  rooted-frame e = rooted-same (area-same clausesRegion environmentRegion s w tt e) (area-same tablesRegion environmentRegion s w tt e)

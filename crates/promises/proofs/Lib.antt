@@ -1,1 +1,13 @@
 pub mod Genuine
+pub mod Trails
+pub mod Starting
+pub mod Setting
+pub mod Trailing
+pub mod Registering
+pub mod Stays
+pub mod Loading
+pub mod CandidateLoading
+pub mod Asking
+pub mod Unchanged
+pub mod Calling
+pub mod Demands

@@ -59,7 +59,7 @@ fn is_known(s: &[u32], kind: u32, id: u32) -> bool
 }
 
 // The requirement of a kind and an id.
-fn requirement_of(kind: u32, id: u32) -> Requirement
+pub fn requirement_of(kind: u32, id: u32) -> Requirement
     ensures { λ r. ⌜ r ≡ requirementOf kind id ⌝ }
 {
     if kind == 0 {
@@ -69,7 +69,7 @@ fn requirement_of(kind: u32, id: u32) -> Requirement
 }
 
 // Its key: the version set of a single, or 256 more than a union.
-fn key_of(r: Requirement) -> usize
+pub fn key_of(r: Requirement) -> usize
     ensures { λ x. ⌜ x ≡ keyOf r ⌝ }
 {
     match r {
@@ -90,7 +90,7 @@ pub fn first_slot(key: usize) -> usize
 }
 
 // How many version sets it has.
-fn set_count(s: &[u32], key: usize) -> usize
+pub fn set_count(s: &[u32], key: usize) -> usize
     requires { ⌜ (words ≤ length (now s)) × (key < requirements) ⌝ }
     ensures { λ r. ⌜ r ≡ setCount (now (s .entry)) key ⌝ }
 {
@@ -299,7 +299,7 @@ pub fn list_of<'a>(s: &'a [u32], r: Requirement, j: usize) -> &'a [u32]
 }
 
 // Whether a kind and an id name a requirement whose table is loaded.
-fn is_tabled(s: &[u32], kind: u32, id: u32) -> bool
+pub fn is_tabled(s: &[u32], kind: u32, id: u32) -> bool
     requires { ⌜ words ≤ length (now s) ⌝ }
     ensures { λ r. ⌜ r ≡ tabled (now (s .entry)) kind id ⌝ }
 {

@@ -77,7 +77,7 @@ none-popped t i s = none (variables (i .base)) (i .popped) (t .floor) (rw (i .mi
 pub none-new : (t : Store) (i : Inv t) → Synced t → i .new ≡ []
 none-new t i s = none (i .base) (i .new) (t .floor) (omega (arith, s .none-popped, s .none-pushed, ap length (i .trail-is))) (omega (arith, i .floor-is))
 
-synced-holds : (t : Store) → Inv t → Synced t → Holds (t .env) (assigned t) [] (t .queue)
+pub synced-holds : (t : Store) → Inv t → Synced t → Holds (t .env) (assigned t) [] (t .queue)
 synced-holds t i s =
     let same-trail : t .trail ≡ i .base = i .trail-is ∙ rw (none-new t i s) (append-nil (i .base)) in
     rw same-trail (rw (none-popped t i s) at (i .holds))

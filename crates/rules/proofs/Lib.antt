@@ -15,3 +15,4 @@ pub mod Position
 pub mod Order
 pub mod Placing
 pub mod Agreeing
+pub mod Following

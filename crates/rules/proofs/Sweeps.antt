@@ -159,17 +159,17 @@ module _ (e : Environment) (a : ℕ → Value) where
 
 -- order and repeats do not matter: a sweep asks only which variables are touched
 module _ (W U : List ℕ) (same : (v : ℕ) → member v W ≡ member v U) where
-  meets-same : (vs : List ℕ) → meets W vs ≡ meets U vs
+  pub meets-same : (vs : List ℕ) → meets W vs ≡ meets U vs
   unfolding meets
   meets-same [] = refl
   meets-same (v ∷ vs) = rw (same v, meets-same vs)
 
-  touches-same : (ls : List Literal) → touches W ls ≡ touches U ls
+  pub touches-same : (ls : List Literal) → touches W ls ≡ touches U ls
   unfolding touches
   touches-same [] = refl
   touches-same (l ∷ ls) = rw (same (l .variable), touches-same ls)
 
-  broken-same : (a : ℕ → Value) (cs : List CandidateList) (m : Memo) → broken a W cs m ≡ broken a U cs m
+  pub broken-same : (a : ℕ → Value) (cs : List CandidateList) (m : Memo) → broken a W cs m ≡ broken a U cs m
   broken-same a cs Dirty = refl
   broken-same a cs (Known (Satisfied x)) = rw (meets-same (flattened cs))
   broken-same a cs (Known (Frontier x n m)) = refl

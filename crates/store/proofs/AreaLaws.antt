@@ -194,6 +194,14 @@ at-puts-here a i x [] after w f h t k = at-written a i x after w f h t k
 at-puts-here a i x (y ∷ ys) after w f h t k =
     at-puts-here a i x ys after (put (y .to) (y .place) (y .word) w) (rw (length-put (y .to) (y .place) (y .word) w) f) h t k
 
+-- and every other word of that area, where no other one lies in it
+pub at-puts-else : (a : Area) (i j x : ℕ) (before after : List Write) (w : List ℕ) → j ≢ i → i < a .size → T (clearOf a before) → Inside before → T (clearOf a after) → Inside after → at a j (puts (before ++ write a i x ∷ after) w) ≡ at a j w
+at-puts-else a i j x [] after w n h t k u l = at-puts a after (put a i x w) j u l ∙ at-put-else a i j x w h n
+at-puts-else a i j x (y ∷ ys) after w n h t k u l =
+    let b = both (apart a (y .to)) (clearOf a ys) (is-true (clearOf a (y ∷ ys)) t) in
+    at-puts-else a i j x ys after (put (y .to) (y .place) (y .word) w) n h (rw (b .1) tt) (k .1) u l
+    ∙ at-kept a (y .to) (y .place) j (y .word) w (rw (b .0) tt) (k .0)
+
 -- an area that shares no word with a region shares none with an area inside it
 pub apart-inside : (a b c : Area) → T (apart a c) → T (within b c) → T (apart a b)
 apart-inside a b c p i =

@@ -57,3 +57,8 @@ cond-yes false x y z e n = absurd (n e)
 pub cond-no : {A : Type 0} (b : Bool) (x y z : A) → cond b x y ≡ z → (x ≡ z → ⊥) → (b ≡ false) × (y ≡ z)
 cond-no true x y z e n = absurd (n e)
 cond-no false x y z e n = (refl, e)
+
+-- what holds of each arm, where its test says so, holds of the choice
+pub cond-either : {A : Type 0} (P : A → Type 0) (b : Bool) (x y : A) → (b ≡ true → P x) → (b ≡ false → P y) → P (cond b x y)
+cond-either P true x y f g = f refl
+cond-either P false x y f g = g refl

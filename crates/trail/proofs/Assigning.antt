@@ -4,7 +4,7 @@ use mathlib.Core.List.{List}
 use mathlib.Core.Path.{_≡_}
 use Prim.Native.Nat.{ℕ, _≤_, _<_}
 use native.Mathlib.Omega.{arith}
-use borrow.Author.Tests.{ltb-true, ltb-false, leb-false, eqb-false}
+use borrow.Author.Tests.{ltb-true, ltb-false, leb-false, eqb-true, eqb-false}
 use lib.Dec.{leb, ltb, eqb}
 use Rattle.store.proofs.Choice.{neither, cond-yes, cond-no}
 use Rattle.store.specs.Area.{at}
@@ -22,8 +22,9 @@ refused-new n e = let z : _≡_ {A = ℕ} 0 1 = cc in omega arith
 already-new : Already ≡ New → ⊥
 already-new e = let z : _≡_ {A = ℕ} 0 1 = cc in omega arith
 
--- "new" is answered only in range, and where there is room
+-- "new" is answered only in range, for an undecided variable, and where there is room
 pub record Fitting (w : List ℕ) (variable value level : ℕ) : Type 0 where
+  pub free : cellSide (at map variable w) ≡ 2
   pub room : entries w < trailRoom
   pub variable< : variable < variables
   pub value< : value < 2
@@ -42,6 +43,7 @@ module _ (w : List ℕ) (variable value level : ℕ) where
       let p = neither (leb variables variable) (leb 2 value) (a .0) in
       let q = neither (eqb level 0) (ltb lastLevel level) (b .0) in
       record {
+        free = eqb-true _ _ (c .0);
         room = ltb-true _ _ (d .0);
         variable< = leb-false _ _ (p .0);
         value< = leb-false _ _ (p .1);

@@ -3,13 +3,13 @@ use mathlib.Core.Bool.{Bool, true, false, cond}
 use mathlib.Core.List.{List, [], _∷_}
 use mathlib.Core.Logic.{⊎-elim, _≢_}
 use mathlib.Core.Path.{_≡_, refl, _∙_}
-use Prim.Native.Nat.{ℕ, zero, suc, _+_, _-_, _≤_, _<_}
+use Prim.Native.Nat.{ℕ, zero, suc, _+_, _-_, _≤_, _<_, min}
 use native.Mathlib.Omega.{arith}
 use borrow.Author.Tests.{ltb-true, ltb-false}
 use lib.Dec.{T, leb, ltb, eqb}
 use lib.ListN.{length, getD, replicate, length-replicate, getD-replicate, List·getD-eq-default}
 use Rattle.store.proofs.AreaLaws.{length-put, at-put-same, at-put-else, area-kept, at-kept, length-blank, area-blank, area-blank-kept, length-puts, area-puts, at-puts, at-puts-here, apart-inside, clear-outside}
-use Rattle.store.proofs.Choice.{eq-or, lt-or}
+use Rattle.store.proofs.Choice.{cond-either, eq-or, lt-or}
 use Rattle.store.proofs.Soundness.{sound-shape, ranged-put, ranged-beside, ranged-blank, tabled-same}
 use Rattle.store.specs.Area.{Area, area, at, put, blank, Write, write, apart, Inside, clearOf}
 use Rattle.store.specs.Layout.{mirrorLength, syncFloor, propagated, trailLength, map, trailVariables, trailValues, trailClauses, words, trailRegion, tablesRegion}
@@ -27,21 +27,13 @@ use Rattle.trail.specs.declared.Assigned.{Assigned}
 use Rattle.trail.specs.declared.Assigned.the-variants.{New, Already, Refused}
 
 -- the smaller of two numbers
-pub least-left : (a b : ℕ) → least a b ≤ a
+pub least-min : (a b : ℕ) → least a b ≡ min b a
 unfolding least
-least-left a b = go (ltb a b) refl
+least-min a b = go (ltb a b) refl
   where
-    go : (t : Bool) → ltb a b ≡ t → cond t a b ≤ a
-    go true e = omega arith
-    go false e = omega (arith, ltb-false a b e)
-
-pub least-right : (a b : ℕ) → least a b ≤ b
-unfolding least
-least-right a b = go (ltb a b) refl
-  where
-    go : (t : Bool) → ltb a b ≡ t → cond t a b ≤ b
+    go : (t : Bool) → ltb a b ≡ t → cond t a b ≡ min b a
     go true e = omega (arith, ltb-true a b e)
-    go false e = omega arith
+    go false e = omega (arith, ltb-false a b e)
 
 -- a cell that is written is never the one number without an opposite
 cell-sound : (value level : ℕ) → 0 < level → level ≤ lastLevel → cellOf value level ≢ mapHole
@@ -119,7 +111,7 @@ module _ (w : List ℕ) (h : Sound w) where
       (write syncFloor 0 (least (entries w - 1) (at syncFloor 0 w)) ∷ [])
       w (omega (arith, h .long)) (omega arith) tt (omega arith, tt)
 
-  popped-floor : at syncFloor 0 (popped w) ≡ least (entries w - 1) (at syncFloor 0 w)
+  pub popped-floor : at syncFloor 0 (popped w) ≡ least (entries w - 1) (at syncFloor 0 w)
   unfolding popped
   popped-floor =
       at-puts-here syncFloor 0 (least (entries w - 1) (at syncFloor 0 w))
@@ -133,8 +125,7 @@ module _ (w : List ℕ) (h : Sound w) where
       let v = at trailVariables n w in
       let l = least n (at syncFloor 0 w) in
       let few = e .few in
-      let low = least-left n (at syncFloor 0 w) in
-      let under = least-right n (at syncFloor 0 w) in
+      let smaller = least-min n (at syncFloor 0 w) in
       let a = put map v 0 w in
       let b = put trailLength 0 n a in
       let c = put propagated 0 n b in
@@ -143,22 +134,20 @@ module _ (w : List ℕ) (h : Sound w) where
       let rc = ranged-put propagated trailRoom 0 n b tt (omega arith) (omega arith) rb in
       record {
         long = rw (length-puts (popWrites w) w) (h .long);
-        ranges = ranged-put syncFloor trailRoom 0 l c tt (omega arith) (omega arith) rc;
+        ranges = ranged-put syncFloor trailRoom 0 l c tt (omega arith) (omega (arith, smaller)) rc;
         cells = λ u. rw (at-puts map (write trailLength 0 n ∷ write propagated 0 n ∷ write syncFloor 0 l ∷ []) a u tt (omega arith, (omega arith, (omega arith, tt)))) (map-sound w v 0 (h .long) (e .named n) (omega arith) (h .cells) u);
         tables = tabled-same (popped w) w (popped-outside tablesRegion tt) (h .tables);
-        floor-trail = rw (popped-floor, popped-count w e) low;
-        floor-mirror = rw (popped-floor, popped-kept w e mirrorLength 0 tt) (omega (arith, h .floor-mirror));
+        floor-trail = rw (popped-floor, popped-count w e) (omega (arith, smaller));
+        floor-mirror = rw (popped-floor, popped-kept w e mirrorLength 0 tt) (omega (arith, smaller, h .floor-mirror));
         index = rw (popped-index, popped-count w e) (omega arith);
       }
 
 pub poppedTo-sound : (level n : ℕ) (w : List ℕ) → Sound w → Sound (poppedTo level n w)
 unfolding poppedTo
 poppedTo-sound level zero w h = h
-poppedTo-sound level (suc n) w h = go (leb (lastLevelOf w) level) (poppedTo-sound level n (popped w) (popped-sound w h))
-  where
-    go : (b : Bool) → Sound (poppedTo level n (popped w)) → Sound (cond b w (poppedTo level n (popped w)))
-    go true s = h
-    go false s = s
+poppedTo-sound level (suc n) w h =
+    let rest = poppedTo-sound level n (popped w) (popped-sound w h) in
+    cond-either Sound (leb (lastLevelOf w) level) w (poppedTo level n (popped w)) (λ e. h) (λ e. rest)
 
 module _ (w : List ℕ) (h : Sound w) where
   clearWrites : List Write
@@ -173,7 +162,11 @@ module _ (w : List ℕ) (h : Sound w) where
   long-blank : words ≤ length (blank map w)
   long-blank = rw (length-blank map w (omega (arith, h .long))) (h .long)
 
-  cleared-floor : at syncFloor 0 (cleared w) ≡ 0
+  pub cleared-count : entries (cleared w) ≡ 0
+  unfolding cleared
+  cleared-count = at-puts-here trailLength 0 0 [] (write propagated 0 0 ∷ write syncFloor 0 0 ∷ []) (blank map w) (omega (arith, long-blank)) (omega arith) tt (omega arith, (omega arith, tt))
+
+  pub cleared-floor : at syncFloor 0 (cleared w) ≡ 0
   unfolding cleared
   cleared-floor = at-puts-here syncFloor 0 0 (write trailLength 0 0 ∷ write propagated 0 0 ∷ []) [] (blank map w) (omega (arith, long-blank)) (omega arith) tt tt
 
@@ -181,7 +174,7 @@ module _ (w : List ℕ) (h : Sound w) where
   unfolding cleared
   cleared-index = at-puts-here propagated 0 0 (write trailLength 0 0 ∷ []) (write syncFloor 0 0 ∷ []) (blank map w) (omega (arith, long-blank)) (omega arith) tt (omega arith, tt)
 
-  cleared-map : (v : ℕ) → at map v (cleared w) ≡ 0
+  pub cleared-map : (v : ℕ) → at map v (cleared w) ≡ 0
   unfolding cleared clearWrites at
   cleared-map v = at-puts map clearWrites (blank map w) v tt (omega arith, (omega arith, (omega arith, tt))) ∙ rw (area-blank map w (omega (arith, h .long))) (zeros v)
     where
@@ -224,10 +217,6 @@ module _ (w : List ℕ) (h : Sound w) where
       }
 
 -- EVERY CALL
-cond-sound : (b : Bool) (x y : List ℕ) → (b ≡ true → Sound x) → (b ≡ false → Sound y) → Sound (cond b x y)
-cond-sound true x y f g = f refl
-cond-sound false x y f g = g refl
-
 module _ (w : List ℕ) (h : Sound w) where
   pub assign-sound : (variable value level clause : ℕ) → Sound (assignInStore w variable value level clause)
   unfolding assignInStore
@@ -240,18 +229,18 @@ module _ (w : List ℕ) (h : Sound w) where
 
   pub undo-last-sound : Sound (undoLastInStore w)
   unfolding undoLastInStore
-  undo-last-sound = cond-sound (ltb (entries w) 2) w (popped w) (λ e. h) (λ e. popped-sound w h)
+  undo-last-sound = cond-either Sound (ltb (entries w) 2) w (popped w) (λ e. h) (λ e. popped-sound w h)
 
   pub undo-until-sound : (level : ℕ) → Sound (undoUntilInStore w level)
   unfolding undoUntilInStore
   undo-until-sound level =
-      cond-sound (ltb lastLevel level) w _ (λ e. h)
-      (λ e. cond-sound (eqb level 0) (cleared w) _ (λ f. cleared-sound w h)
-      (λ f. cond-sound (noStop w level) w (poppedTo level (entries w) w) (λ g. h) (λ g. poppedTo-sound level (entries w) w h)))
+      cond-either Sound (ltb lastLevel level) w _ (λ e. h)
+      (λ e. cond-either Sound (eqb level 0) (cleared w) _ (λ f. cleared-sound w h)
+      (λ f. cond-either Sound (noStop w level) w (poppedTo level (entries w) w) (λ g. h) (λ g. poppedTo-sound level (entries w) w h)))
 
   pub next-sound : Sound (nextInStore w)
   unfolding nextInStore
-  next-sound = cond-sound (ltb (at propagated 0 w) (entries w)) _ w (λ e. moved-sound w h (ltb-true _ _ e)) (λ e. h)
+  next-sound = cond-either Sound (ltb (at propagated 0 w) (entries w)) _ w (λ e. moved-sound w h (ltb-true _ _ e)) (λ e. h)
 
 -- on a sound store a public call is its inner one
 module _ (w : List ℕ) (h : Sound w) where

@@ -12,11 +12,14 @@ register-case-requires c κs = search needs
 enum-told : tie.Need-enum-told
 enum-told c = search needs
 
+requirement-of-requires : tie.Need-requirement-of-requires
+requirement-of-requires c κs = search needs
+
 key-of-requires : tie.Need-key-of-requires
 key-of-requires c κs = search needs
 
 put-in-requires : tie.Need-put-in-requires
-put-in-requires c κs = (c .before .before .before .before .before .before .before .pre, rw (c .key-of .ensures) (done-placed _ _ _ _ _ (sym (c .before .before .before .before .register-case .ensures) ∙ c .before .before .enum-told .given .1)))
+put-in-requires c κs = (c .before .before .before .before .before .before .before .before .pre, rw (c .before .key-of .ensures, c .before .before .requirement-of .ensures) (done-placed _ _ _ _ _ (sym (c .before .before .before .before .before .register-case .ensures) ∙ c .before .before .before .enum-told .given .1)))
 
 enum-told-2 : tie.Need-enum-told-2
 enum-told-2 c = search needs
@@ -26,7 +29,7 @@ same-length c = search needs
 
 returns : tie.Need-returns
 unfolding registerInStore
-returns c = let f = rw (c .before .before .before .key-of .ensures) at (c .before .before .put-in .ensures) in (c .before .before .before .before .before .before .before .register-case .ensures, f ∙ sym (done-left _ _ _ (sym (c .before .before .before .before .before .before .before .register-case .ensures) ∙ c .before .before .before .before .before .enum-told .given .1)))
+returns c = let f = rw (c .before .before .before .before .key-of .ensures, c .before .before .before .before .before .requirement-of .ensures) at (c .before .before .put-in .ensures) in (c .before .before .before .before .before .before .before .before .register-case .ensures, f ∙ sym (done-left _ _ _ (sym (c .before .before .before .before .before .before .before .before .register-case .ensures) ∙ c .before .before .before .before .before .before .enum-told .given .1)))
 
 same-length-2 : tie.Need-same-length-2
 same-length-2 c = search needs
@@ -41,6 +44,7 @@ register-spec =
     (tie.spec
     register-case-requires
     enum-told
+    requirement-of-requires
     key-of-requires
     put-in-requires
     enum-told-2

@@ -1,0 +1,77 @@
+-- The caches in the words: what an examination of a clause finds by them, and the words that it leaves.
+use mathlib.Core.Bool.{Bool, true, false, cond}
+use mathlib.Core.List.{List, [], _∷_}
+use Prim.Native.Nat.{ℕ}
+use Rattle.evaluate.specs.Standing.{envOf, memoOf, markOf, queueOf, ofClause}
+use Rattle.evaluate.specs.View.{assigned, listsAt}
+use Rattle.rules.specs.Queue.{Operations, seen}
+use Rattle.rules.specs.Walk.{active, evaluate}
+use Rattle.store.specs.Area.{Write, put, puts, write}
+use Rattle.store.specs.Layout.{queued, cacheStates, cacheCandidates, cacheNames, cacheCounts, clauseRequirements}
+use Rattle.rules.specs.declared.Memo.{Memo}
+use Rattle.rules.specs.declared.Memo.the-variants.{Dirty, Known}
+use Rattle.rules.specs.declared.Seen.{Seen}
+use Rattle.rules.specs.declared.Seen.the-variants.{Shut, Open, Gone}
+use Rattle.rules.specs.declared.State.{State}
+use Rattle.rules.specs.declared.State.the-variants.{Satisfied, Frontier, Dead}
+use Rattle.examine.specs.declared.Met.{Met}
+use Rattle.examine.specs.declared.Met.the-variants.{Unqueued, Dropped, Opened, Dead as MetDead}
+
+-- the four words of a cache
+abbrev pub cacheWrites : ℕ → ℕ → ℕ → ℕ → ℕ → List Write
+cacheWrites key state candidate name count = write cacheStates key state ∷ write cacheCandidates key candidate ∷ write cacheNames key name ∷ write cacheCounts key count ∷ []
+
+unfoldable pub cached : List ℕ → ℕ → ℕ → ℕ → ℕ → ℕ → List ℕ
+cached w key state candidate name count = puts (cacheWrites key state candidate name count) w
+
+-- "caches filled; the dead requirement's cache stays dirty"
+unfoldable pub saved : List ℕ → ℕ → State → List ℕ
+saved w key (Satisfied x) = cached w key 1 x 0 0
+saved w key (Frontier x n m) = cached w key 2 x n m
+saved w key Dead = w
+
+-- a cache that is not dirty is believed and left; a dirty one gets what its requirement is
+abbrev pub refreshed : List ℕ → ℕ → Memo → State → List ℕ
+refreshed w key Dirty t = saved w key t
+refreshed w key (Known u) t = w
+
+-- the key of a clause's requirement
+abbrev pub keyOf : List ℕ → ℕ → ℕ
+keyOf w k = ofClause clauseRequirements w k
+
+-- what an examination of clause k finds, and the words that it leaves: only an active clause's cache is asked, and filled
+unfoldable pub seenAt : List ℕ → ℕ → Seen
+seenAt w k = seen (envOf w) (assigned w) (queueOf w) k
+
+unfoldable pub filled : List ℕ → ℕ → List ℕ
+filled w k =
+    cond (active (envOf w) (assigned w) k)
+    (refreshed w (keyOf w k) (memoOf w (keyOf w k)) (evaluate (assigned w) (listsAt w (keyOf w k))))
+    w
+
+-- a clause leaves the queue
+abbrev pub dropped : List ℕ → ℕ → List ℕ
+dropped w k = put queued k 0 w
+
+-- the words as a state of the walk
+abbrev pub wordOperations : Operations (List ℕ)
+wordOperations = record { mark = markOf; seen = seenAt; fill = filled; drop = dropped }
+
+-- a visit: "A clause leaves the queue exactly when the walk examines it queued and finds it not open"
+abbrev pub metBy : Bool → Seen → Met
+metBy false v = Unqueued
+metBy true Shut = Dropped
+metBy true (Open x n m) = Opened x n m
+metBy true Gone = MetDead
+
+abbrev pub leftBy : Bool → Seen → List ℕ → List ℕ → List ℕ → List ℕ
+leftBy false v w f d = w
+leftBy true Shut w f d = d
+leftBy true (Open x n m) w f d = f
+leftBy true Gone w f d = f
+
+unfoldable pub metAt : List ℕ → ℕ → Met
+metAt w k = metBy (markOf w k) (seenAt w k)
+
+unfoldable pub visited : List ℕ → ℕ → List ℕ
+visited w k = leftBy (markOf w k) (seenAt w k) w (filled w k) (dropped (filled w k) k)

@@ -1,0 +1,55 @@
+-- THE SETTINGS' CALLS KEEP WORDS GENUINE: each tunes document 01's store. Assumes nothing.
+use mathlib.Core.List.{List}
+use mathlib.Core.Path.{_≡_, refl, sym, subst}
+use Prim.Native.Nat.{ℕ}
+use lib.Dec.{T}
+use lib.Ieee.{Float, binary32, fits}
+use Rattle.evaluate.proofs.Frames.{clauses-same, env-tuned, mirror-same, queue-same, trail-same}
+use Rattle.evaluate.specs.Standing.{envOf, storeOf}
+use Rattle.promises.proofs.Genuine.{Genuine, mapped-frame, rooted-same}
+use Rattle.rules.specs.Store.{Reached, then, tuned, tunes}
+use Rattle.settings.proofs.Kept.{activity-outside, activity-sound, hot-outside, hot-sound, mode-outside, mode-sound}
+use Rattle.settings.specs.Settings.{activityInStore, activityStore, hotInStore, hotStore, modeInStore, modeStore}
+use Rattle.store.proofs.AreaLaws.{at-same}
+use Rattle.store.proofs.Choice.{cond-either}
+use Rattle.store.specs.Area.{Area, apart, area}
+use Rattle.store.specs.Layout.{clausesRegion, mirrorRegion, queueRegion, settingsRegion, syncFloor, tablesRegion, trailRegion}
+use Rattle.store.specs.Shape.{Sound, soundShape}
+
+-- A CALL THAT WRITES THE SETTINGS' REGION ALONE leaves words that differ in activities, hot names and mode
+module _ (s w : List ℕ) (out : (a : Area) → T (apart a settingsRegion) → area a s ≡ area a w) where
+  store-tuned : storeOf s ≡ tuned (storeOf w) ((envOf s) .activity) ((envOf s) .hot) ((envOf s) .standard)
+  store-tuned =
+      λ i.
+      record {
+        env = env-tuned s w (out clausesRegion tt) (out tablesRegion tt) ((envOf s) .activity) ((envOf s) .hot) ((envOf s) .standard) refl refl refl i;
+        trail = trail-same s w (out trailRegion tt) i;
+        mirror = mirror-same s w (out mirrorRegion tt) i;
+        floor = at-same syncFloor trailRegion s w tt (out trailRegion tt) 0 i;
+        queue = queue-same s w (out queueRegion tt) (clauses-same s w (out clausesRegion tt)) i;
+      }
+
+  tuned-genuine : Sound s → Genuine w → Genuine s
+  tuned-genuine h g =
+      record {
+        sound = h;
+        mapped = mapped-frame s w (out trailRegion tt) (g .mapped);
+        rooted = rooted-same s w (out clausesRegion tt) (out tablesRegion tt) (g .rooted);
+        reached = subst Reached (sym store-tuned) (then (g .reached) (tunes ((envOf s) .activity) ((envOf s) .hot) ((envOf s) .standard)));
+      }
+
+module _ (w : List ℕ) (g : Genuine w) where
+  pub mark-hot-genuine : (name : ℕ) → Genuine (hotStore w name)
+  unfolding hotStore
+  mark-hot-genuine name = cond-either Genuine (soundShape w) (hotInStore w name) w (λ e. tuned-genuine (hotInStore w name) w (λ a t. hot-outside w a t name) (hot-sound w (g .sound) name) g) (λ e. g)
+
+  -- a float parameter always fits its format
+  pub set-activity-genuine : (name : ℕ) (x : Float) → T (fits binary32 x) → Genuine (activityStore w name x)
+  unfolding activityStore
+  set-activity-genuine name x f =
+      cond-either Genuine (soundShape w) (activityInStore w name x) w
+      (λ e. tuned-genuine (activityInStore w name x) w (λ a t. activity-outside w a t name x f) (activity-sound w (g .sound) name x f) g) (λ e. g)
+
+  pub set-mode-genuine : (m : ℕ) → Genuine (modeStore w m)
+  unfolding modeStore
+  set-mode-genuine m = cond-either Genuine (soundShape w) (modeInStore w m) w (λ e. tuned-genuine (modeInStore w m) w (λ a t. mode-outside w a t m) (mode-sound w (g .sound) m) g) (λ e. g)

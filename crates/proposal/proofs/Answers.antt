@@ -1,0 +1,42 @@
+-- THE PROPOSAL OF A SYNCED STORE IS THE WALK OF DOCUMENT 01. Assumes nothing.
+use mathlib.Core.Bool.{false}
+use mathlib.Core.List.{List, []}
+use mathlib.Core.Path.{_≡_, ap}
+use Prim.Native.Nat.{ℕ}
+use borrow.Author.Tests.{ltb-false}
+use lib.Dec.{ltb}
+use Rattle.evaluate.proofs.Froms.{length-mirror, length-trail}
+use Rattle.evaluate.specs.Standing.{envOf, queueOf, storeOf}
+use Rattle.evaluate.specs.View.{assigned}
+use Rattle.examine.proofs.Stand.{word-walk}
+use Rattle.proposal.specs.Propose.{answer, proposalIn, proposalInStore, told, unsynced}
+use Rattle.rules.specs.Invariant.{Holds}
+use Rattle.rules.specs.Store.{Synced}
+use Rattle.rules.specs.Walk.{walk}
+use Rattle.store.proofs.Choice.{neither}
+use Rattle.store.specs.Area.{at}
+use Rattle.store.specs.Layout.{mirrorLength, syncFloor, trailLength}
+use Rattle.store.specs.Shape.{Sound}
+use Rattle.rules.specs.declared.Out.{Out}
+
+module _ (w : List ℕ) (h : Sound w) (q : Holds (envOf w) (assigned w) [] (queueOf w)) where
+  -- where the queue is right for the assignment, the answer is the walk over every clause
+  pub proposal-is : proposalIn w ≡ told w (walk (envOf w) (assigned w)) (answer w .drops)
+  unfolding proposalIn answer
+  proposal-is = ap (λ (o : Out). told w o (answer w .drops)) (word-walk w h q .0)
+
+  -- and the queue that is left is right for it too
+  pub proposal-holds : Holds (envOf w) (assigned w) [] (queueOf (proposalInStore w))
+  unfolding proposalInStore answer
+  proposal-holds = word-walk w h q .1 .1
+
+-- what is not refused by number 7 is synced, in the words' store too
+module _ (w : List ℕ) (h : Sound w) where
+  pub synced-store : unsynced w ≡ false → Synced (storeOf w)
+  unfolding unsynced
+  synced-store e =
+      let p = neither (ltb (at syncFloor 0 w) (at mirrorLength 0 w)) (ltb (at mirrorLength 0 w) (at trailLength 0 w)) e in
+      record {
+        none-popped = rw (length-mirror w h) (ltb-false (at syncFloor 0 w) (at mirrorLength 0 w) (p .0));
+        none-pushed = rw (length-mirror w h, length-trail w) (ltb-false (at mirrorLength 0 w) (at trailLength 0 w) (p .1));
+      }

@@ -1,0 +1,5 @@
+pub mod Steps
+pub mod Unrolling
+pub mod Loops
+pub mod Kept
+pub mod Answers

@@ -1,0 +1,175 @@
+-- What each test of the walk's code says of the definitions. Assumes nothing.
+use mathlib.Core.Bool.{Bool, true, false, not, _||_}
+use mathlib.Core.List.{List}
+use mathlib.Core.Logic.{_≢_}
+use mathlib.Core.Path.{_≡_, refl, sym, ap, _∙_}
+use Prim.Native.Nat.{ℕ, zero, suc, _+_, _-_, _≤_, _<_, max}
+use native.Mathlib.Numerals.{add-one}
+use native.Mathlib.Omega.{arith}
+use borrow.Author.Tests.{eq-eqb, ne-eqb, lt-ltb, le-ltb, ltb-true, ltb-false}
+use lib.Dec.{eqb, ltb}
+use Rattle.evaluate.proofs.Turns.{from-next, from-done}
+use Rattle.evaluate.specs.Standing.{envOf}
+use Rattle.evaluate.specs.View.{from, listAt, listsAt}
+use Rattle.examine.proofs.Clauses.{clause-word}
+use Rattle.proposal.specs.Propose.{unsynced}
+use Rattle.proposal.specs.Turn.{bestAt, coldAt, hotAt, largestAt, passedAt, shieldedAt, stopsAt, topAt}
+use Rattle.requirement.specs.Tables.{firstSlot, listCount, nameOf, setOf}
+use Rattle.rules.specs.Walk.{anyHot, better, largest}
+use Rattle.store.specs.Area.{at}
+use Rattle.store.specs.Layout.{activities, clauseCount, clauseParents, clauseRequirements, hotNames, mirrorLength, mode, setNames, syncFloor, trailLength}
+use Rattle.store.specs.Limits.{lastActivity, names}
+use Rattle.store.specs.Shape.{Sound}
+use Rattle.rules.specs.declared.Best.{Best}
+
+-- the name of a list is a name
+pub name-below : (w : List ℕ) (slot x : ℕ) → Sound w → x ≡ nameOf w (setOf w slot) → x < names
+name-below w slot x h e = let m = h .ranges setNames names tt (setOf w slot) in omega arith
+
+-- a turn of the loop over lists for a hot name
+module _ (w : List ℕ) (t n i : ℕ) (b : Bool) (so : b ≡ anyHot (envOf w .hot) (from (listAt w) (t + i) (n - i))) where
+  module _ (x z : ℕ) (h : i < n) (p : x ≡ nameOf w (setOf w (t + i))) (q : z ≡ at hotNames x w) where
+    pub hot-hit : z ≡ 1 → true ≡ b
+    unfolding anyHot listAt
+    hot-hit o = sym (so ∙ rw (from-next (listAt w) t n i h, ← p, ← q, eq-eqb z 1 o))
+
+    pub hot-next : z ≢ 1 → b ≡ anyHot (envOf w .hot) (from (listAt w) (t + (i + 1)) (n - (i + 1)))
+    unfolding anyHot listAt
+    hot-next o = so ∙ rw (from-next (listAt w) t n i h, ← p, ← q, ne-eqb z 1 o)
+
+  pub hot-none : n ≤ i → false ≡ b
+  unfolding anyHot
+  hot-none h = sym (so ∙ rw (from-done (listAt w) t n i h))
+
+pub hot-is : (w : List ℕ) (k key t n : ℕ) → k < at clauseCount 0 w → key ≡ at clauseRequirements k w → t ≡ firstSlot key → n ≡ listCount w key → anyHot (envOf w .hot) (from (listAt w) t n) ≡ hotAt w k
+unfolding listsAt hotAt
+hot-is w k key t n l e f g = rw (clause-word clauseRequirements w k l, ← e, f, g)
+
+-- the mode
+module _ (w : List ℕ) (x : ℕ) (e : x ≡ at mode 0 w) where
+  pub is-standard : x ≡ 1 → envOf w .standard ≡ true
+  is-standard h = rw (← e, eq-eqb x 1 h)
+
+  pub not-standard : x ≢ 1 → envOf w .standard ≡ false
+  not-standard h = rw (← e, ne-eqb x 1 h)
+
+-- which clauses are passed over
+or-true : (b : Bool) → b || true ≡ true
+or-true true = refl
+or-true false = refl
+
+or-false : (b : Bool) → b || false ≡ b
+or-false true = refl
+or-false false = refl
+
+module _ (w : List ℕ) (k : ℕ) where
+  pub cold-by : (h : Bool) → envOf w .standard ≡ true → h ≡ hotAt w k → not h ≡ coldAt w k
+  unfolding hotAt coldAt
+  cold-by h p q = rw (p, q)
+
+  pub cold-not : envOf w .standard ≡ false → false ≡ coldAt w k
+  unfolding coldAt
+  cold-not p = rw p
+
+module _ (w : List ℕ) (b : Best) (k : ℕ) where
+  passed-is : passedAt w b k ≡ coldAt w k || shieldedAt w b k
+  unfolding passedAt coldAt shieldedAt
+  passed-is = refl
+
+  pub passed-shielded : shieldedAt w b k ≡ true → true ≡ passedAt w b k
+  passed-shielded p = sym (passed-is ∙ ap (λ t. coldAt w k || t) p ∙ or-true (coldAt w k))
+
+  pub passed-cold : shieldedAt w b k ≡ false → coldAt w k ≡ passedAt w b k
+  passed-cold p = sym (passed-is ∙ ap (λ t. coldAt w k || t) p ∙ or-false (coldAt w k))
+
+  module _ (l : k < at clauseCount 0 w) (m : b .clause < at clauseCount 0 w) (j x : ℕ) (e : j ≡ b .clause) (q : x ≡ at clauseParents j w) where
+    pub shielded-by : (y : ℕ) → x ≡ 0 → y ≡ at clauseParents k w → not (eqb y 0) ≡ shieldedAt w b k
+    unfolding shieldedAt
+    shielded-by y z r = rw (clause-word clauseParents w k l, clause-word clauseParents w (b .clause) m, ← e, ← q, ← r, eq-eqb x 0 z)
+
+    pub shielded-not : x ≢ 0 → false ≡ shieldedAt w b k
+    unfolding shieldedAt
+    shielded-not z = rw (clause-word clauseParents w (b .clause) m, ← e, ← q, ne-eqb x 0 z)
+
+-- the largest activity so far
+module _ (w : List ℕ) (i t a : ℕ) (is : t ≡ largestAt w i) (next : a ≡ at activities i w) where
+  largest-next : largestAt w (i + 1) ≡ max t a
+  unfolding largest largestAt
+  largest-next = rw (add-one, is, next)
+
+  pub largest-more : ltb t a ≡ true → a ≡ largestAt w (i + 1)
+  largest-more h = omega (arith, largest-next, ltb-true t a h)
+
+  pub largest-kept : ltb t a ≡ false → t ≡ largestAt w (i + 1)
+  largest-kept h = omega (arith, largest-next, ltb-false t a h)
+
+pub largest-none : (w : List ℕ) → 0 ≡ largestAt w 0
+unfolding largest largestAt
+largest-none w = refl
+
+largest-most : (f : ℕ → ℕ) (m n : ℕ) → ((i : ℕ) → f i ≤ m) → largest f n ≤ m
+unfolding largest
+largest-most f m zero h = omega arith
+largest-most f m (suc n) h = omega (arith, largest-most f m n h, h n)
+
+module _ (w : List ℕ) (h : Sound w) where
+  pub activity-most : (n a : ℕ) → a ≡ at activities n w → a ≤ lastActivity
+  activity-most n a e = let m = h .ranges activities lastActivity tt n in omega arith
+
+  pub largest-good : (n t : ℕ) → t ≡ largestAt w n → t ≤ lastActivity
+  unfolding largestAt
+  largest-good n t e = rw e (largest-most (envOf w .activity) lastActivity n (h .ranges activities lastActivity tt))
+
+  pub top-good : (t : ℕ) → envOf w .standard ≡ true → t ≡ topAt w → t ≤ lastActivity
+  unfolding topAt
+  top-good t s e = largest-good names t (e ∙ rw s)
+
+pub top-standard : (w : List ℕ) → envOf w .standard ≡ true → largestAt w names ≡ topAt w
+unfolding topAt
+top-standard w s = rw s
+
+pub top-else : (w : List ℕ) → envOf w .standard ≡ false → 0 ≡ topAt w
+unfolding topAt
+top-else w s = rw s
+
+-- where the walk stops
+module _ (w : List ℕ) (b : Best) where
+  pub stop-one : b .count ≡ 1 → true ≡ stopsAt w b
+  unfolding stopsAt
+  stop-one h = rw (eq-eqb (b .count) 1 h)
+
+  pub stop-top : (t : ℕ) → b .count ≢ 1 → envOf w .standard ≡ true → t ≡ topAt w → eqb (b .activity) t ≡ stopsAt w b
+  unfolding stopsAt largestAt
+  stop-top t h s q =
+      let z : t ≡ largest (envOf w .activity) names = q ∙ sym (top-standard w s) in
+      rw (ne-eqb (b .count) 1 h, s, z)
+
+  pub stop-not : b .count ≢ 1 → envOf w .standard ≡ false → false ≡ stopsAt w b
+  unfolding stopsAt
+  stop-not h s = rw (ne-eqb (b .count) 1 h, s)
+
+-- a clause as a best
+pub best-is : (w : List ℕ) (k x n m a : ℕ) → a ≡ at activities n w → record { clause = k; candidate = x; activity = a; count = m } ≡ bestAt w k x n m
+unfolding bestAt
+best-is w k x n m a e = rw e
+
+-- the better of two
+module _ (b d : Best) where
+  pub better-new : ltb (b .activity) (d .activity) ≡ true → d .count < b .count → d ≡ better b d
+  better-new h i = rw (h, lt-ltb (d .count) (b .count) i, better)
+
+  pub better-few : ltb (b .activity) (d .activity) ≡ true → b .count ≤ d .count → b ≡ better b d
+  better-few h i = rw (h, le-ltb (d .count) (b .count) i, better)
+
+  pub better-low : ltb (b .activity) (d .activity) ≡ false → b ≡ better b d
+  better-low h = rw (h, better)
+
+-- unsynced
+module _ (w : List ℕ) (f m : ℕ) (e : f ≡ at syncFloor 0 w) (q : m ≡ at mirrorLength 0 w) where
+  pub unsynced-popped : f < m → true ≡ unsynced w
+  unfolding unsynced
+  unsynced-popped h = rw (← e, ← q, lt-ltb f m h)
+
+  pub unsynced-pushed : (n : ℕ) → m ≤ f → n ≡ at trailLength 0 w → ltb m n ≡ unsynced w
+  unfolding unsynced
+  unsynced-pushed n h r = rw (← e, ← q, ← r, le-ltb f m h)

@@ -1,0 +1,31 @@
+use native.Mathlib.Omega.{arith}
+use borrow.Author.Needs.{needs}
+use Rattle.examine.proofs.Clauses.{clause-inside}
+use Rattle.proposal.proofs.Steps.{shielded-by, shielded-not}
+use Rattle.proposal.proofs.decide_queue.is_shielded.Statement.{statement}
+use Rattle.proposal.proofs.decide_queue.is_shielded.Tie as tie
+
+wide-requires : tie.Need-wide-requires
+wide-requires c κs = search needs
+
+parent-requires : tie.Need-parent-requires
+parent-requires c κs = (c .before .before .pre .0 .long, omega (arith, c .wide .ensures, clause-inside _ (c .before .before .pre .0) _ (c .before .before .pre .2)))
+
+parent-requires-2 : tie.Need-parent-requires-2
+parent-requires-2 c κs = (c .before .before .before .before .pre .0 .long, clause-inside _ (c .before .before .before .before .pre .0) _ (c .before .before .before .before .pre .1))
+
+returns : tie.Need-returns
+returns c = shielded-by _ _ _ (c .before .before .before .before .before .pre .1) (c .before .before .before .before .before .pre .2) _ _ (c .before .before .before .wide .ensures) (c .before .before .parent .ensures) _ (c .before .if1 .taken) (c .parent2 .ensures)
+
+returns-2 : tie.Need-returns-2
+returns-2 c = shielded-not _ _ _ (c .before .before .before .before .pre .1) (c .before .before .before .before .pre .2) _ _ (c .before .before .wide .ensures) (c .before .parent .ensures) (c .if1 .left)
+
+pub is-shielded-spec : {M : Type 1} → statement M
+is-shielded-spec =
+    tie.close
+    (tie.spec
+    wide-requires
+    parent-requires
+    parent-requires-2
+    returns
+    returns-2)

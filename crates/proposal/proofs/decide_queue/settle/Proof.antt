@@ -1,0 +1,110 @@
+use mathlib.Core.Path.{sym, _∙_}
+use Prim.Native.Nat.{_-_}
+use native.Mathlib.Omega.{arith}
+use borrow.Author.Needs.{needs}
+use Rattle.proposal.proofs.Loops.{Second, as-told, begin-second, sane-choose, sane-dead, second-beside, second-dead, second-ends, second-ready, second-stops, second-turn, second-weighing, settle-one}
+use Rattle.proposal.proofs.Steps.{stop-one}
+use Rattle.proposal.specs.Propose.{second}
+use Rattle.proposal.proofs.decide_queue.settle.Statement.{statement}
+use Rattle.proposal.proofs.decide_queue.settle.Tie as tie
+
+abbrev Inv-loop : tie.InvT-loop
+Inv-loop s₀ from drops n highest k₀ b₀ d₀ s k b d = Second s₀ s n highest k b d (second s₀ b₀ k₀ d₀ s₀)
+
+abbrev μ-loop : tie.MeasureT-loop
+μ-loop s₀ from drops n highest k₀ b₀ d₀ s k b d = n - k
+
+chosen-requires : tie.Need-chosen-requires Inv-loop μ-loop
+chosen-requires c κs = search needs
+
+returns : tie.Need-returns Inv-loop μ-loop
+returns c = as-told _ _ _ _ _ (c .chosen .ensures) (settle-one _ _ _ _ (sym (stop-one _ _ (c .before .if1 .taken)))) (sane-choose _ _ (c .before .before .before .before .pre .2))
+
+clause-count-requires : tie.Need-clause-count-requires Inv-loop μ-loop
+clause-count-requires c κs = c .before .before .before .before .pre .0 .long
+
+top-requires : tie.Need-top-requires Inv-loop μ-loop
+top-requires c κs = c .before .before .before .before .before .before .pre .0
+
+loop-holds : tie.Need-loop-holds Inv-loop μ-loop
+loop-holds c = begin-second _ _ _ _ _ _ (c .before .before .before .before .before .before .before .pre .0) (c .before .before .clause-count .ensures) (c .top .ensures) (c .before .before .before .before .before .before .before .pre .1) (c .before .before .before .before .before .before .before .pre .2) (c .before .before .before .before .before .before .before .pre .3)
+
+weigh-requires : tie.Need-weigh-requires Inv-loop μ-loop
+weigh-requires c κs = second-ready _ _ _ _ _ _ _ _ (c .before .before .loop .inv) (c .before .loop-test .taken)
+
+enum-known-x : tie.Need-enum-known-x Inv-loop μ-loop
+enum-known-x c = search needs
+
+add-d : tie.Need-add-d Inv-loop μ-loop
+add-d c = omega (arith, second-weighing _ _ _ _ _ _ _ _ (c .before .before .before .before .before .before .before .before .loop .inv) (c .before .before .before .before .before .before .before .loop-test .taken) _ (c .before .before .before .before .before .weigh .ensures .1) _ _ (sym (c .before .before .before .before .before .weigh .ensures .0) ∙ c .before .x .given .1) .few, c .before .before .before .before .before .before .before .before .loop .inv .drops, c .before .before .before .before .before .before .before .before .loop .inv .upto, c .before .before .before .before .before .before .before .before .loop .inv .few)
+
+enum-told : tie.Need-enum-told Inv-loop μ-loop
+enum-told c = search needs
+
+chosen-requires-2 : tie.Need-chosen-requires-2 Inv-loop μ-loop
+chosen-requires-2 c κs = search needs
+
+same-length : tie.Need-same-length Inv-loop μ-loop
+same-length c = search needs
+
+returns-2 : tie.Need-returns-2 Inv-loop μ-loop
+returns-2 c = as-told _ _ _ _ _ (c .chosen2 .ensures) (second-stops _ _ _ _ _ _ _ _ (c .before .before .before .before .before .before .before .before .loop .inv) (c .before .before .before .before .before .before .before .loop-test .taken) _ (c .before .before .before .before .before .weigh .ensures .1) (sym (c .before .before .before .before .before .weigh .ensures .0) ∙ c .before .enum-told .given .1)) (sane-choose _ _ (c .before .before .before .before .before .before .before .before .loop .inv .fine))
+
+enum-told-2 : tie.Need-enum-told-2 Inv-loop μ-loop
+enum-told-2 c = search needs
+
+died-requires : tie.Need-died-requires Inv-loop μ-loop
+died-requires c κs = (second-beside _ _ _ _ _ _ _ _ (c .before .before .before .before .before .before .before .before .loop .inv) (c .before .before .before .before .before .before .before .loop-test .taken) _ (c .before .before .before .before .before .weigh .ensures .1) .sound .long, omega (arith, c .before .before .before .before .before .before .before .loop-test .taken, c .before .before .before .before .before .before .before .before .loop .inv .few))
+
+same-length-2 : tie.Need-same-length-2 Inv-loop μ-loop
+same-length-2 c = search needs
+
+returns-3 : tie.Need-returns-3 Inv-loop μ-loop
+returns-3 c = as-told _ _ _ _ _ (c .died .ensures) (second-dead _ _ _ _ _ _ _ _ (c .before .before .before .before .before .before .before .before .before .loop .inv) (c .before .before .before .before .before .before .before .before .loop-test .taken) _ (c .before .before .before .before .before .before .weigh .ensures .1) (sym (c .before .before .before .before .before .before .weigh .ensures .0) ∙ c .before .before .enum-told2 .given .1)) (sane-dead _ _)
+
+add-k : tie.Need-add-k Inv-loop μ-loop
+add-k c = omega (arith, c .before .before .before .before .before .before .before .loop-test .taken, c .before .before .before .before .before .before .before .before .loop .inv .few)
+
+loop-less : tie.Need-loop-less Inv-loop μ-loop
+loop-less c = search needs
+
+loop-again : tie.Need-loop-again Inv-loop μ-loop
+loop-again c = second-turn _ _ _ _ _ _ _ _ (c .before .before .before .before .before .before .before .before .loop .inv) (c .before .before .before .before .before .before .before .loop-test .taken) _ (c .before .before .before .before .before .weigh .ensures .1) _ _ (sym (c .before .before .before .before .before .weigh .ensures .0) ∙ c .before .x .given .1)
+
+chosen-requires-3 : tie.Need-chosen-requires-3 Inv-loop μ-loop
+chosen-requires-3 c κs = search needs
+
+same-length-3 : tie.Need-same-length-3 Inv-loop μ-loop
+same-length-3 c = search needs
+
+returns-4 : tie.Need-returns-4 Inv-loop μ-loop
+returns-4 c = as-told _ _ _ _ _ (c .chosen3 .ensures) (second-ends _ _ _ _ _ _ _ _ (c .before .before .loop .inv) (c .before .loop-test .left)) (sane-choose _ _ (c .before .before .loop .inv .fine))
+
+pub settle-spec : {M : Type 1} → statement M
+settle-spec =
+    tie.close
+    (tie.spec
+    Inv-loop
+    μ-loop
+    chosen-requires
+    returns
+    clause-count-requires
+    top-requires
+    loop-holds
+    weigh-requires
+    enum-known-x
+    add-d
+    enum-told
+    chosen-requires-2
+    same-length
+    returns-2
+    enum-told-2
+    died-requires
+    same-length-2
+    returns-3
+    add-k
+    loop-less
+    loop-again
+    chosen-requires-3
+    same-length-3
+    returns-4)

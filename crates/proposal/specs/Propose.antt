@@ -1,0 +1,84 @@
+-- The proposal at the words: the walk over the queued clauses, its answer as document 01 gives it, and the words that it leaves.
+use mathlib.Core.Bool.{Bool, cond, _||_}
+use mathlib.Core.List.{List, [], _∷_}
+use mathlib.Core.Path.{_≡_}
+use Prim.Native.Nat.{ℕ, _-_}
+use lib.Dec.{ltb}
+use lib.Ieee.{binary32, ofBits, toBits}
+use Rattle.evaluate.specs.Standing.{envOf, ofClause}
+use Rattle.examine.specs.Cache.{wordOperations}
+use Rattle.proposal.specs.Turn.{Fine}
+use Rattle.rules.specs.Queue.{Answer, queuedFrom, queuedOn}
+use Rattle.rules.specs.Walk.{ranks, ranksFrom}
+use Rattle.store.specs.Area.{at}
+use Rattle.store.specs.Layout.{clauseCount, clauseIds, clauseParents, mirrorLength, syncFloor, trailLength}
+use Rattle.store.specs.Shape.{soundShape}
+use Rattle.rules.specs.declared.Best.{Best}
+use Rattle.rules.specs.declared.Out.{Out}
+use Rattle.rules.specs.declared.Out.the-variants.{Nothing, Dead as DeadClause, Choose}
+use Rattle.proposal.specs.declared.Proposal.{Proposal}
+use Rattle.proposal.specs.declared.Proposal.the-variants.{Choose as Chosen, Nothing as NoneOpen, Dead as DeadAt, Refused}
+use Rattle.proposal.specs.declared.decide_queue.Walked.{Walked}
+
+-- the two parts of the walk, from rank k on: to the first best, and after it
+abbrev pub first : List ℕ → ℕ → ℕ → List ℕ → Answer (List ℕ)
+first w k d s = queuedFrom wordOperations (envOf w) (ranksFrom k (at clauseCount 0 w - k)) d s
+
+abbrev pub second : List ℕ → Best → ℕ → ℕ → List ℕ → Answer (List ℕ)
+second w b k d s = queuedOn wordOperations (envOf w) b (ranksFrom k (at clauseCount 0 w - k)) d s
+
+-- the whole walk
+unfoldable pub answer : List ℕ → Answer (List ℕ)
+answer w = queuedFrom wordOperations (envOf w) (ranks (envOf w .size)) 0 w
+
+-- how it ends: at its best, or at a dead clause
+abbrev pub choosing : Best → ℕ → Walked
+choosing b d = record { out = Choose b; drops = d }
+
+abbrev pub dying : ℕ → ℕ → Walked
+dying id d = record { out = DeadClause id; drops = d }
+
+abbrev pub ended : Walked → List ℕ → Answer (List ℕ)
+ended r s = record { out = r .out; drops = r .drops; left = s }
+
+-- what is chosen is a clause of the store with a good activity
+pub record Sane (w : List ℕ) (o : Out) : Type 0 where
+  pub chosen : (b : Best) → o ≡ Choose b → Fine w b
+
+-- "The answer carries candidate, parent, clause id, activity as f32, count, and the number of clauses dropped from the queue by this call;
+-- nothing and refusal 8 carry that number too"
+abbrev pub told : List ℕ → Out → ℕ → Proposal
+told w Nothing d = NoneOpen d
+told w (DeadClause c) d = DeadAt c d
+told w (Choose b) d = Chosen (b .candidate) (ofClause clauseParents w (b .clause)) (ofClause clauseIds w (b .clause)) (ofBits binary32 (b .activity)) (b .count) d
+
+unfoldable pub proposalIn : List ℕ → Proposal
+proposalIn w = told w (answer w .out) (answer w .drops)
+
+unfoldable pub proposalInStore : List ℕ → List ℕ
+proposalInStore w = answer w .left
+
+-- "Unsynced means: the floor is below the mirror's length, or the trail is longer than the mirror"
+unfoldable pub unsynced : List ℕ → Bool
+unsynced w = ltb (at syncFloor 0 w) (at mirrorLength 0 w) || ltb (at mirrorLength 0 w) (at trailLength 0 w)
+
+-- on any words; 7: "a proposal is asked of an unsynced store"
+unfoldable pub proposalOut : List ℕ → Proposal
+proposalOut w = cond (soundShape w) (cond (unsynced w) (Refused 7) (proposalIn w)) (Refused 1)
+
+unfoldable pub proposalStore : List ℕ → List ℕ
+proposalStore w = cond (soundShape w) (cond (unsynced w) w (proposalInStore w)) w
+
+-- the answer's number and values in document 01; a dead clause is 8
+abbrev pub proposalNumber : Proposal → ℕ
+proposalNumber (Chosen candidate parent clause activity count dropped) = 0
+proposalNumber (NoneOpen dropped) = 0
+proposalNumber (DeadAt clause dropped) = 8
+proposalNumber (Refused n) = n
+
+-- 1 if a candidate was found, the candidate, its parent and clause id, the activity's bits, the count, the clauses dropped
+abbrev pub proposalValues : Proposal → List ℕ
+proposalValues (Chosen candidate parent clause activity count dropped) = 1 ∷ candidate ∷ parent ∷ clause ∷ toBits binary32 activity ∷ count ∷ dropped ∷ []
+proposalValues (NoneOpen dropped) = 0 ∷ dropped ∷ []
+proposalValues (DeadAt clause dropped) = clause ∷ dropped ∷ []
+proposalValues (Refused n) = []

@@ -1,0 +1,66 @@
+-- One clause of the walk at the words: the walk's tests and bests of the environment that the words hold, and what a clause does to the best.
+use mathlib.Core.Bool.{Bool, true, false, cond, not, _&&_}
+use mathlib.Core.List.{List}
+use Prim.Native.Nat.{ℕ, _≤_, _<_}
+use lib.Dec.{eqb}
+use Rattle.evaluate.specs.Standing.{envOf, markOf, ofClause}
+use Rattle.examine.specs.Cache.{metAt, visited}
+use Rattle.rules.specs.Walk.{best, better, isHot, largest, passedOver, stops}
+use Rattle.store.specs.Area.{at}
+use Rattle.store.specs.Layout.{clauseCount, clauseParents}
+use Rattle.store.specs.Limits.{names, lastActivity}
+use Rattle.examine.specs.declared.Met.{Met}
+use Rattle.examine.specs.declared.Met.the-variants.{Unqueued, Dropped, Opened, Dead as MetDead}
+use Rattle.rules.specs.declared.Best.{Best}
+use Rattle.proposal.specs.declared.decide_queue.Weighed.{Weighed}
+use Rattle.proposal.specs.declared.decide_queue.Weighed.the-variants.{On, Enough, Fatal}
+
+-- "It is hot if a name of its version sets is hot"
+unfoldable pub hotAt : List ℕ → ℕ → Bool
+hotAt w k = isHot (envOf w) k
+
+-- "in standard mode only hot ones"
+unfoldable pub coldAt : List ℕ → ℕ → Bool
+coldAt w k = envOf w .standard && not (isHot (envOf w) k)
+
+-- "If the best's parent is the root, clauses of other parents are passed over unexamined"
+unfoldable pub shieldedAt : List ℕ → Best → ℕ → Bool
+shieldedAt w b k = eqb (ofClause clauseParents w (b .clause)) 0 && not (eqb (ofClause clauseParents w k) 0)
+
+unfoldable pub passedAt : List ℕ → Best → ℕ → Bool
+passedAt w b k = passedOver (envOf w) b k
+
+-- "the largest stored" of the first n activities
+unfoldable pub largestAt : List ℕ → ℕ → ℕ
+largestAt w n = largest (envOf w .activity) n
+
+-- of all, which only standard mode asks for
+unfoldable pub topAt : List ℕ → ℕ
+topAt w = cond (envOf w .standard) (largestAt w names) 0
+
+unfoldable pub stopsAt : List ℕ → Best → Bool
+stopsAt w b = stops (envOf w) b
+
+unfoldable pub bestAt : List ℕ → ℕ → ℕ → ℕ → ℕ → Best
+bestAt w k candidate name count = best (envOf w) k candidate name count
+
+-- a best is one of the store's clauses, and its activity's bits are those of a finite number
+pub record Fine (w : List ℕ) (b : Best) : Type 0 where
+  pub clause< : b .clause < at clauseCount 0 w
+  pub activity≤ : b .activity ≤ lastActivity
+
+-- what a clause does to the best so far, and the words that it leaves: one that is not queued is skipped, whether the walk stops or not
+abbrev pub weighBy : Bool → Bool → Bool → Met → Best → (ℕ → ℕ → ℕ → Best) → Weighed
+weighBy false stop passed v b f = On b 0
+weighBy true true passed v b f = Enough
+weighBy true false true v b f = On b 0
+weighBy true false false Unqueued b f = On b 0
+weighBy true false false Dropped b f = On b 1
+weighBy true false false (Opened x n m) b f = On (f x n m) 0
+weighBy true false false MetDead b f = Fatal
+
+unfoldable pub weighOf : List ℕ → Best → ℕ → Weighed
+weighOf w b k = weighBy (markOf w k) (stopsAt w b) (passedAt w b k) (metAt w k) b (λ x n m. better b (bestAt w k x n m))
+
+unfoldable pub weighed : List ℕ → Best → ℕ → List ℕ
+weighed w b k = cond (markOf w k) (cond (stopsAt w b) w (cond (passedAt w b k) w (visited w k))) w

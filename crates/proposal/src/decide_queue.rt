@@ -1,0 +1,315 @@
+// The walk over the queued clauses of a store of sound shape, in position order. The layers above, which have tested the shape, call `propose`.
+ghost use mathlib.Core.Path.{_≡_};
+ghost use Prim.Native.Nat.{_+_, _≤_, _<_};
+ghost use lib.ListN.{length};
+ghost use Rattle.store.specs.Area.{at};
+ghost use Rattle.store.specs.Layout.{words, activities, clauseCount, clauseIds};
+ghost use Rattle.store.specs.Limits.{clauses, lists, names, lastActivity};
+ghost use Rattle.store.specs.Shape.{Sound};
+ghost use Rattle.rules.specs.Walk.{anyHot, better};
+ghost use Rattle.evaluate.specs.Standing.{envOf};
+ghost use Rattle.evaluate.specs.View.{from, listAt};
+ghost use Rattle.proposal.specs.Turn.{hotAt, coldAt, shieldedAt, passedAt, largestAt, topAt, stopsAt, bestAt, weighOf, weighed, Fine};
+ghost use Rattle.proposal.specs.Propose.{choosing, dying, second, answer, ended, Sane, proposalIn, proposalInStore};
+use crate::Proposal;
+use examine::Met;
+use examine::inspection;
+use requirement::candidates;
+use rules::Best;
+use rules::Out;
+use settings::activity;
+use store::limits;
+use store::read;
+use store::wide;
+
+// What a clause does to the best so far: the walk goes on with a best and a number of drops, or ends at its best or at a dead clause.
+pub enum Weighed {
+    On(Best, u32),
+    Enough,
+    Fatal,
+}
+
+// The walk's answer, and the number of clauses that it dropped.
+pub struct Walked {
+    pub out: Out,
+    pub drops: u32,
+}
+
+// Whether one of n lists has a hot name.
+fn any_hot(s: &[u32], slot: usize, n: usize) -> bool
+    requires { ⌜ (Sound (now s)) × (slot + n ≤ lists) ⌝ }
+    ensures { λ r. ⌜ r ≡ anyHot (envOf (now (s .entry)) .hot) (from (listAt (now (s .entry))) slot n) ⌝ }
+{
+    let mut i: usize = 0;
+    while i < n {
+        let name = candidates::name_at(s, slot + i);
+        if read::hot(s, wide(name)) == 1 {
+            return true;
+        }
+        i += 1;
+    }
+    false
+}
+
+// Whether a clause is hot.
+fn is_hot(s: &[u32], k: usize) -> bool
+    requires { ⌜ (Sound (now s)) × (k < at clauseCount 0 (now s)) ⌝ }
+    ensures { λ r. ⌜ r ≡ hotAt (now (s .entry)) k ⌝ }
+{
+    let key = wide(read::requirement(s, k));
+    let slot = candidates::first_slot(key);
+    let n = candidates::list_count(s, key);
+    any_hot(s, slot, n)
+}
+
+// Whether the mode is standard and a clause is cold.
+fn is_cold(s: &[u32], k: usize) -> bool
+    requires { ⌜ (Sound (now s)) × (k < at clauseCount 0 (now s)) ⌝ }
+    ensures { λ r. ⌜ r ≡ coldAt (now (s .entry)) k ⌝ }
+{
+    if read::mode(s) == 1 {
+        return !is_hot(s, k);
+    }
+    false
+}
+
+// Whether the best's parent is the root and a clause's parent is not.
+fn is_shielded(s: &[u32], b: Best, k: usize) -> bool
+    requires { ⌜ (Sound (now s)) × (k < at clauseCount 0 (now s)) × (b .clause < at clauseCount 0 (now s)) ⌝ }
+    ensures { λ r. ⌜ r ≡ shieldedAt (now (s .entry)) b k ⌝ }
+{
+    if read::parent(s, wide(b.clause)) == 0 {
+        return read::parent(s, k) != 0;
+    }
+    false
+}
+
+// Whether a clause is passed over after a best.
+fn passed_over(s: &[u32], b: Best, k: usize) -> bool
+    requires { ⌜ (Sound (now s)) × (k < at clauseCount 0 (now s)) × (b .clause < at clauseCount 0 (now s)) ⌝ }
+    ensures { λ r. ⌜ r ≡ passedAt (now (s .entry)) b k ⌝ }
+{
+    if is_shielded(s, b, k) {
+        return true;
+    }
+    is_cold(s, k)
+}
+
+// The largest of the first n activities.
+fn largest_of(s: &[u32], n: usize) -> u32
+    requires { ⌜ (Sound (now s)) × (n ≤ names) ⌝ }
+    ensures { λ r. ⌜ r ≡ largestAt (now (s .entry)) n ⌝ }
+{
+    let mut top: u32 = 0;
+    let mut i: usize = 0;
+    while i < n {
+        let a = read::activity(s, i);
+        if activity::higher(top, a) {
+            top = a;
+        }
+        i += 1;
+    }
+    top
+}
+
+// The largest activity, which only standard mode asks for.
+fn top(s: &[u32]) -> u32
+    requires { ⌜ Sound (now s) ⌝ }
+    ensures { λ r. ⌜ r ≡ topAt (now (s .entry)) ⌝ }
+{
+    if read::mode(s) == 1 {
+        return largest_of(s, limits::NAMES);
+    }
+    0
+}
+
+// Whether the walk stops at a best, where `highest` is the largest activity.
+fn stops(s: &[u32], b: Best, highest: u32) -> bool
+    requires { ⌜ (Sound (now s)) × (b .activity ≤ lastActivity) × (highest ≡ topAt (now s)) ⌝ }
+    ensures { λ r. ⌜ r ≡ stopsAt (now (s .entry)) b ⌝ }
+{
+    if b.count == 1 {
+        return true;
+    }
+    if read::mode(s) == 1 {
+        return activity::level(b.activity, highest);
+    }
+    false
+}
+
+// The better of two: the second if its activity is strictly higher and its count strictly lower.
+fn better_of(b: Best, d: Best) -> Best
+    requires { ⌜ (b .activity ≤ lastActivity) × (d .activity ≤ lastActivity) ⌝ }
+    ensures { λ r. ⌜ r ≡ better b d ⌝ }
+{
+    if activity::higher(b.activity, d.activity) {
+        if d.count < b.count {
+            return d;
+        }
+    }
+    b
+}
+
+// The bits of a name's activity.
+fn activity_of(s: &[u32], name: u32) -> u32
+    requires { ⌜ words ≤ length (now s) ⌝ }
+    ensures { λ r. ⌜ r ≡ at activities name (now (s .entry)) ⌝ }
+{
+    if name < limits::NAMES as u32 {
+        return read::activity(s, wide(name));
+    }
+    0
+}
+
+// A clause as a best.
+fn best_of(s: &[u32], k: u32, candidate: u32, name: u32, count: u32) -> Best
+    requires { ⌜ words ≤ length (now s) ⌝ }
+    ensures { λ r. ⌜ r ≡ bestAt (now (s .entry)) k candidate name count ⌝ }
+{
+    let bits = activity_of(s, name);
+    Best {
+        clause: k,
+        candidate,
+        activity: bits,
+        count,
+    }
+}
+
+// One clause after the first best, where `highest` is the largest activity.
+fn weigh(s: &mut [u32], b: Best, highest: u32, rank: u32) -> Weighed
+    requires { ⌜ (Sound (now s)) × (rank < at clauseCount 0 (now s)) × (Fine (now s) b) × (highest ≡ topAt (now s)) ⌝ }
+    ensures { λ r. ⌜ (r ≡ weighOf (now (s .entry)) b rank) × (now (s .exit) ≡ weighed (now (s .entry)) b rank) ⌝ }
+{
+    let k = wide(rank);
+    if read::queued(s, k) != 1 {
+        return Weighed::On(b, 0);
+    }
+    if stops(s, b, highest) {
+        return Weighed::Enough;
+    }
+    if passed_over(s, b, k) {
+        return Weighed::On(b, 0);
+    }
+    let met = inspection::visit(s, k);
+    match met {
+        Met::Unqueued => Weighed::On(b, 0),
+        Met::Dropped => Weighed::On(b, 1),
+        Met::Opened {
+            candidate,
+            name,
+            count,
+        } => {
+            let d = best_of(s, rank, candidate, name, count);
+            let best = better_of(b, d);
+            Weighed::On(best, 0)
+        }
+        Met::Dead => Weighed::Fatal,
+    }
+}
+
+// The walk's answer at its best.
+fn chosen(b: Best, drops: u32) -> Walked
+    ensures { λ r. ⌜ r ≡ choosing b drops ⌝ }
+{
+    Walked {
+        out: Out::Choose(b),
+        drops,
+    }
+}
+
+// The walk's answer at a dead clause.
+fn died(s: &[u32], k: u32, drops: u32) -> Walked
+    requires { ⌜ (words ≤ length (now s)) × (k < clauses) ⌝ }
+    ensures { λ r. ⌜ r ≡ dying (at clauseIds k (now (s .entry))) drops ⌝ }
+{
+    Walked {
+        out: Out::Dead(read::clause_id(s, wide(k))),
+        drops,
+    }
+}
+
+// The walk from a best on.
+fn settle(s: &mut [u32], from: u32, first: Best, drops: u32) -> Walked
+    requires { ⌜ (Sound (now s)) × (from ≤ at clauseCount 0 (now s)) × (Fine (now s) first) × (drops ≤ from) ⌝ }
+    ensures { λ r. ⌜ (ended r (now (s .exit)) ≡ second (now (s .entry)) first from drops (now (s .entry))) × (Sane (now (s .entry)) (r .out)) ⌝ }
+{
+    if first.count == 1 {
+        return chosen(first, drops);
+    }
+    let n = read::clause_count(s);
+    let highest = top(s);
+    let mut k = from;
+    let mut b = first;
+    let mut d = drops;
+    while k < n {
+        let x = weigh(s, b, highest, k);
+        match x {
+            Weighed::On(c, y) => {
+                b = c;
+                d += y;
+            }
+            Weighed::Enough => return chosen(b, d),
+            Weighed::Fatal => return died(s, k, d),
+        }
+        k += 1;
+    }
+    chosen(b, d)
+}
+
+// The walk: the first best is the open clause of lowest position.
+fn walk(s: &mut [u32]) -> Walked
+    requires { ⌜ Sound (now s) ⌝ }
+    ensures { λ r. ⌜ (ended r (now (s .exit)) ≡ answer (now (s .entry))) × (Sane (now (s .entry)) (r .out)) ⌝ }
+{
+    let n = read::clause_count(s);
+    let mut k: u32 = 0;
+    let mut d: u32 = 0;
+    while k < n {
+        let met = inspection::visit(s, wide(k));
+        match met {
+            Met::Unqueued => {}
+            Met::Dropped => d += 1,
+            Met::Opened {
+                candidate,
+                name,
+                count,
+            } => {
+                let b = best_of(s, k, candidate, name, count);
+                return settle(s, k + 1, b, d);
+            }
+            Met::Dead => return died(s, k, d),
+        }
+        k += 1;
+    }
+    Walked {
+        out: Out::Nothing,
+        drops: d,
+    }
+}
+
+// The proposal of a synced store of sound shape.
+pub fn propose(s: &mut [u32]) -> Proposal
+    requires { ⌜ Sound (now s) ⌝ }
+    ensures { λ r. ⌜ (r ≡ proposalIn (now (s .entry))) × (now (s .exit) ≡ proposalInStore (now (s .entry))) ⌝ }
+{
+    let r = walk(s);
+    let out = r.out;
+    let dropped = r.drops;
+    match out {
+        Out::Nothing => Proposal::Nothing { dropped },
+        Out::Dead(clause) => Proposal::Dead { clause, dropped },
+        Out::Choose(b) => {
+            let k = wide(b.clause);
+            let parent = read::parent(s, k);
+            let clause = read::clause_id(s, k);
+            Proposal::Choose {
+                candidate: b.candidate,
+                parent,
+                clause,
+                activity: f32::from_bits(b.activity),
+                count: b.count,
+                dropped,
+            }
+        }
+    }
+}

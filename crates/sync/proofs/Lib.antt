@@ -1,0 +1,9 @@
+pub mod Sweeping
+pub mod Touched
+pub mod Occurring
+pub mod Tests
+pub mod Kept
+pub mod Turns
+pub mod Swept
+pub mod Mirrored
+pub mod Standing

@@ -1,0 +1,184 @@
+-- The loops of a sync and how its steps join. Assumes nothing.
+use mathlib.Core.Bool.{Bool, true, false}
+use mathlib.Core.List.{List, [], _∷_, _++_}
+use mathlib.Core.Path.{_≡_, sym, ap, _∙_}
+use Prim.Native.Nat.{ℕ, _+_, _-_, _≤_, _<_}
+use native.Mathlib.Omega.{arith}
+use lib.Dec.{T}
+use lib.ListN.{length}
+use Rattle.evaluate.specs.Standing.{memoOf}
+use Rattle.rules.specs.Walk.{member}
+use Rattle.store.proofs.AreaLaws.{length-put, area-kept}
+use Rattle.store.proofs.Choice.{both}
+use Rattle.store.specs.Area.{Area, area, at, put, putRun, apart}
+use Rattle.store.specs.Layout.{queued, cacheStates, cacheCandidates, cacheNames, cacheCounts, mirror, mirrorLength, syncFloor, trailLength, trailVariables, map, clauseCount, clauseParents, clauseRequirements, clauseConditions, environmentRegion}
+use Rattle.store.specs.Limits.{variables, requirements, disjunctions, trailRoom, lastVariable, lastRequirement}
+use Rattle.store.specs.Shape.{every, upTo, Sound}
+use Rattle.evaluate.proofs.Froms.{upto-next, upto-done, every-from}
+use Rattle.sync.proofs.Kept.{few, woken-sound, spoiled-sound, new-in-range}
+use Rattle.sync.proofs.Sweeping.{length-sweep, area-sweep, sound-sweep, at-sweep-else, sweep-set, sweep-skip, sweep-same}
+use Rattle.sync.proofs.Tests.{memo-kept, wakes-kept, spoils-kept, wakes-alike, spoils-alike}
+use Rattle.sync.proofs.Touched.{entered-both, table-tells}
+use Rattle.sync.specs.Sweep.{sweep}
+use Rattle.sync.specs.Sync.{wordsFrom, oldEntries, newEntries, touchedIn, wakesAt, spoilsAt, wokenWords, spoiledWords, sweptWords, copiedWords, mirroredWords, syncInStore}
+use Rattle.sync.specs.Table.{inTable, OfVariables, entered, tableOf}
+
+-- what is read is in range
+module _ (w : List ℕ) (i x : ℕ) (h : Sound w) where
+  pub parent-variable : x ≡ at clauseParents i w → x < variables
+  parent-variable e = let m = h .ranges clauseParents lastVariable tt i in omega arith
+
+  pub cached-variable : x ≡ at cacheCandidates i w → x < variables
+  cached-variable e = let m = h .ranges cacheCandidates lastVariable tt i in omega arith
+
+  pub condition-range : x ≡ at clauseConditions i w → x ≤ disjunctions
+  condition-range e = let m = h .ranges clauseConditions disjunctions tt i in omega arith
+
+  pub requirement-range : x ≡ at clauseRequirements i w → x < requirements
+  requirement-range e = let m = h .ranges clauseRequirements lastRequirement tt i in omega arith
+
+pub mirror-variables : (w : List ℕ) → Sound w → OfVariables mirror w
+mirror-variables w h k = let m = h .ranges mirror lastVariable tt k in omega arith
+
+pub trail-variables : (w : List ℕ) → Sound w → OfVariables trailVariables w
+trail-variables w h k = let m = h .ranges trailVariables lastVariable tt k in omega arith
+
+-- the marks: so far the first k were swept
+module _ (w W s : List ℕ) (n k : ℕ) (h : Sound w) (q : n ≡ at clauseCount 0 w) (l : k ≤ n) (so : s ≡ sweep queued (wakesAt w W) 1 w k) where
+  room : k ≤ queued .size
+  room = omega (arith, few w h)
+
+  pub waking-length : length s ≡ length w
+  waking-length = ap length so ∙ length-sweep queued (wakesAt w W) 1 w k room
+
+  pub waking-sound : Sound s
+  waking-sound = rw so (sound-sweep queued (wakesAt w W) 1 w 1 tt tt (omega arith) h k room)
+
+  waking-area : (b : Area) → T (apart b queued) → area b s ≡ area b w
+  waking-area b t = ap (area b) so ∙ area-sweep queued (wakesAt w W) 1 w b t k room
+
+  pub waking-count : at clauseCount 0 s ≡ n
+  unfolding at
+  waking-count = rw (waking-area clauseCount tt) (sym q)
+
+  waking-memo : (key : ℕ) → memoOf s key ≡ memoOf w key
+  unfolding at
+  waking-memo key = memo-kept s w key (rw (waking-area cacheStates tt)) (waking-area cacheCandidates tt) (waking-area cacheNames tt) (waking-area cacheCounts tt)
+
+  waking-test : wakesAt w W k ≡ wakesAt s W k
+  waking-test = sym (wakes-kept s w (waking-area environmentRegion tt) (waking-area map tt) W waking-memo k)
+
+  pub waking-set : (r : List ℕ) → r ≡ put queued k 1 s → wakesAt s W k ≡ true → r ≡ sweep queued (wakesAt w W) 1 w (k + 1)
+  waking-set r e t = e ∙ sweep-set queued (wakesAt w W) 1 w s k so (waking-test ∙ t)
+
+  pub waking-skip : (r : List ℕ) → r ≡ s → wakesAt s W k ≡ false → r ≡ sweep queued (wakesAt w W) 1 w (k + 1)
+  waking-skip r e t = e ∙ sweep-skip queued (wakesAt w W) 1 w s k so (waking-test ∙ t)
+
+  pub waking-done : n ≤ k → s ≡ wokenWords w W
+  unfolding wokenWords
+  waking-done m =
+      let e : k ≡ at clauseCount 0 w = omega arith in
+      so ∙ ap (sweep queued (wakesAt w W) 1 w) e
+
+-- the caches
+module _ (w W s : List ℕ) (key : ℕ) (h : Sound w) (l : key ≤ requirements) (so : s ≡ sweep cacheStates (spoilsAt w W) 0 w key) where
+  pub spoiling-length : length s ≡ length w
+  spoiling-length = ap length so ∙ length-sweep cacheStates (spoilsAt w W) 0 w key l
+
+  pub spoiling-sound : Sound s
+  spoiling-sound = rw so (sound-sweep cacheStates (spoilsAt w W) 0 w 2 tt tt (omega arith) h key l)
+
+  spoiling-area : (b : Area) → T (apart b cacheStates) → area b s ≡ area b w
+  spoiling-area b t = ap (area b) so ∙ area-sweep cacheStates (spoilsAt w W) 0 w b t key l
+
+  spoiling-memo : memoOf s key ≡ memoOf w key
+  spoiling-memo =
+      memo-kept s w key
+      (ap (at cacheStates key) so ∙ at-sweep-else cacheStates (spoilsAt w W) 0 w key key l (omega arith))
+      (spoiling-area cacheCandidates tt) (spoiling-area cacheNames tt) (spoiling-area cacheCounts tt)
+
+  spoiling-test : spoilsAt w W key ≡ spoilsAt s W key
+  spoiling-test = sym (spoils-kept s w (spoiling-area environmentRegion tt) (spoiling-area map tt) W key spoiling-memo)
+
+  pub spoiling-set : (r : List ℕ) → r ≡ put cacheStates key 0 s → spoilsAt s W key ≡ true → r ≡ sweep cacheStates (spoilsAt w W) 0 w (key + 1)
+  spoiling-set r e t = e ∙ sweep-set cacheStates (spoilsAt w W) 0 w s key so (spoiling-test ∙ t)
+
+  pub spoiling-skip : (r : List ℕ) → r ≡ s → spoilsAt s W key ≡ false → r ≡ sweep cacheStates (spoilsAt w W) 0 w (key + 1)
+  spoiling-skip r e t = e ∙ sweep-skip cacheStates (spoilsAt w W) 0 w s key so (spoiling-test ∙ t)
+
+  pub spoiling-done : requirements ≤ key → s ≡ spoiledWords w W
+  unfolding spoiledWords
+  spoiling-done m =
+      let e : key ≡ requirements = omega arith in
+      so ∙ ap (sweep cacheStates (spoilsAt w W) 0 w) e
+
+-- the copy: what is left to copy makes the whole copy
+pub copy-start : (w : List ℕ) (floor n : ℕ) → floor ≡ at syncFloor 0 w → n ≡ at trailLength 0 w → copiedWords w ≡ putRun mirror floor (wordsFrom trailVariables w floor (n - floor)) w
+unfolding copiedWords newEntries
+copy-start w floor n p q = rw (p, q)
+
+module _ (w s : List ℕ) (i n : ℕ) (long : length s ≡ length w) (kept : area trailVariables s ≡ area trailVariables w) (so : copiedWords w ≡ putRun mirror i (wordsFrom trailVariables w i (n - i)) s) where
+  module _ (x : ℕ) (r : List ℕ) (is : x ≡ at trailVariables i s) (e : r ≡ put mirror i x s) where
+    pub copy-long : length r ≡ length w
+    copy-long = ap length e ∙ length-put mirror i x s ∙ long
+
+    pub copy-kept : i < trailRoom → area trailVariables r ≡ area trailVariables w
+    copy-kept l = ap (area trailVariables) e ∙ area-kept trailVariables mirror i x s tt l ∙ kept
+
+    pub copy-turn : i < n → copiedWords w ≡ putRun mirror (i + 1) (wordsFrom trailVariables w (i + 1) (n - (i + 1))) r
+    unfolding putRun wordsFrom at
+    copy-turn l =
+        let z : x ≡ at trailVariables i w = is ∙ rw kept in
+        so ∙ rw (upto-next (λ k. at trailVariables k w) i n l, putRun, ← z, e)
+
+  pub copy-done : n ≤ i → s ≡ copiedWords w
+  unfolding putRun wordsFrom
+  copy-done l = sym (so ∙ rw (upto-done (λ k. at trailVariables k w) i n l))
+
+-- the touched variables are entered in two runs
+pub both-entered : (w : List ℕ) (t r u : List Bool) (floor old n : ℕ) → floor ≡ at syncFloor 0 w → old ≡ at mirrorLength 0 w → n ≡ at trailLength 0 w → r ≡ entered t (wordsFrom mirror w floor (old - floor)) → u ≡ entered r (wordsFrom trailVariables w floor (n - floor)) → u ≡ entered t (touchedIn w)
+unfolding touchedIn oldEntries newEntries
+both-entered w t r u floor old n p q o e f =
+    rw (← p, ← q, ← o)
+    (f
+    ∙ ap (λ (v : List Bool). entered v (wordsFrom trailVariables w floor (n - floor))) e
+    ∙ sym (entered-both t (wordsFrom mirror w floor (old - floor)) (wordsFrom trailVariables w floor (n - floor))))
+
+-- the touched variables are variables
+every-both : (p : ℕ → Bool) (xs ys : List ℕ) → every p xs ≡ true → every p ys ≡ true → every p (xs ++ ys) ≡ true
+unfolding every
+every-both p [] ys e f = f
+every-both p (x ∷ xs) ys e f =
+    let b = both (p x) (every p xs) e in
+    rw (b .0) (every-both p xs ys (b .1) f)
+
+touched-in-range : (w : List ℕ) → Sound w → every (upTo lastVariable) (touchedIn w) ≡ true
+unfolding touchedIn oldEntries wordsFrom
+touched-in-range w h =
+    every-both (upTo lastVariable) (oldEntries w) (newEntries w)
+    (every-from lastVariable (λ k. at mirror k w) (h .ranges mirror lastVariable tt) (at syncFloor 0 w) (at mirrorLength 0 w - at syncFloor 0 w))
+    (new-in-range w h)
+
+-- the steps of a sync, one after the other
+module _ (w : List ℕ) (t : List Bool) (s : List ℕ) (h : Sound w) (e : s ≡ wokenWords w (inTable t)) where
+  pub first-sound : Sound s
+  first-sound = rw e (woken-sound w (inTable t) h)
+
+  module _ (r : List ℕ) (f : r ≡ spoiledWords s (inTable t)) where
+    pub second-sound : Sound r
+    second-sound = rw f (spoiled-sound s (inTable t) first-sound)
+
+    pub sync-made : (u : List ℕ) → t ≡ tableOf (touchedIn w) → u ≡ mirroredWords r → u ≡ syncInStore w
+    unfolding syncInStore sweptWords wokenWords spoiledWords
+    sync-made u i g = g ∙ ap mirroredWords (f ∙ ap (λ (v : List ℕ). spoiledWords v (inTable t)) (e ∙ marks) ∙ caches)
+      where
+        same : (v : ℕ) → member v (inTable t) ≡ member v (touchedIn w)
+        same v = ap (λ (l : List Bool). member v (inTable l)) i ∙ table-tells (touchedIn w) (touched-in-range w h) v
+
+        marks : wokenWords w (inTable t) ≡ wokenWords w (touchedIn w)
+        marks = sweep-same queued (wakesAt w (inTable t)) (wakesAt w (touchedIn w)) 1 w (at clauseCount 0 w) (wakes-alike (inTable t) (touchedIn w) same w)
+
+        caches : spoiledWords (wokenWords w (touchedIn w)) (inTable t) ≡ spoiledWords (wokenWords w (touchedIn w)) (touchedIn w)
+        caches =
+            sweep-same cacheStates (spoilsAt (wokenWords w (touchedIn w)) (inTable t)) (spoilsAt (wokenWords w (touchedIn w)) (touchedIn w)) 0 (wokenWords w (touchedIn w)) requirements
+            (spoils-alike (inTable t) (touchedIn w) same (wokenWords w (touchedIn w)))

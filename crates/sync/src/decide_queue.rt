@@ -1,0 +1,144 @@
+// Sync on a store of sound shape. The layers above, which have tested the shape, call it.
+ghost use mathlib.Core.Path.{_≡_};
+ghost use Prim.Native.Nat.{_<_};
+ghost use Rattle.store.specs.Area.{at};
+ghost use Rattle.store.specs.Layout.{clauseCount, syncFloor, trailLength};
+ghost use Rattle.store.specs.Limits.{requirements};
+ghost use Rattle.store.specs.Shape.{Sound};
+ghost use Rattle.sync.specs.Sync.{touchesIn, brokenAt, wakesAt, spoilsAt, wokenWords, spoiledWords, copiedWords, mirroredWords, syncInStore};
+ghost use Rattle.sync.specs.Table.{inTable};
+ghost use Rattle.sync.specs.declared.Synced.the-variants.{Touches};
+use crate::Synced;
+use crate::occurrences;
+use crate::table;
+use crate::table::PLACES;
+use evaluate::assignment;
+use store::limits;
+use store::read;
+use store::wide;
+use store::write;
+
+// Whether a cache says "satisfied by x", x is not true, and a candidate is touched.
+fn breaks(s: &[u32], t: &[bool; PLACES], key: usize) -> bool
+    requires { ⌜ (Sound (now s)) × (key < requirements) ⌝ }
+    ensures { λ r. ⌜ r ≡ brokenAt (now (s .entry)) (inTable (now (t .entry))) key ⌝ }
+{
+    if read::cache_state(s, key) == 1 {
+        if assignment::is_true(s, read::cache_candidate(s, key)) {
+            return false;
+        }
+        return occurrences::in_requirement(s, t, key);
+    }
+    false
+}
+
+// Whether a clause wakes.
+fn wakes(s: &[u32], t: &[bool; PLACES], k: usize) -> bool
+    requires { ⌜ (Sound (now s)) × (k < at clauseCount 0 (now s)) ⌝ }
+    ensures { λ r. ⌜ r ≡ wakesAt (now (s .entry)) (inTable (now (t .entry))) k ⌝ }
+{
+    let parent = read::parent(s, k);
+    if assignment::is_true(s, parent) {
+        if table::is_touched(t, parent) {
+            return true;
+        }
+        if occurrences::in_condition(s, t, read::condition(s, k)) {
+            return true;
+        }
+        return breaks(s, t, wide(read::requirement(s, k)));
+    }
+    false
+}
+
+// Sets the marks of the clauses that wake.
+fn wake_clauses(s: &mut [u32], t: &[bool; PLACES])
+    requires { ⌜ Sound (now s) ⌝ }
+    ensures { λ _. ⌜ now (s .exit) ≡ wokenWords (now (s .entry)) (inTable (now (t .entry))) ⌝ }
+{
+    let n = wide(read::clause_count(s));
+    let mut k: usize = 0;
+    while k < n {
+        if wakes(s, t, k) {
+            write::queued(s, k, 1);
+        }
+        k += 1;
+    }
+}
+
+// Whether a cache becomes dirty; one that is so is not walked.
+fn spoils(s: &[u32], t: &[bool; PLACES], key: usize) -> bool
+    requires { ⌜ (Sound (now s)) × (key < requirements) ⌝ }
+    ensures { λ r. ⌜ r ≡ spoilsAt (now (s .entry)) (inTable (now (t .entry))) key ⌝ }
+{
+    let state = read::cache_state(s, key);
+    if state == 0 {
+        return false;
+    }
+    if state == 1 {
+        return breaks(s, t, key);
+    }
+    occurrences::in_requirement(s, t, key)
+}
+
+// Makes the caches dirty that become so.
+fn spoil_caches(s: &mut [u32], t: &[bool; PLACES])
+    requires { ⌜ Sound (now s) ⌝ }
+    ensures { λ _. ⌜ now (s .exit) ≡ spoiledWords (now (s .entry)) (inTable (now (t .entry))) ⌝ }
+{
+    let mut key: usize = 0;
+    while key < limits::REQUIREMENTS {
+        if spoils(s, t, key) {
+            write::cache_state(s, key, 0);
+        }
+        key += 1;
+    }
+}
+
+// Copies the trail's entries at or beyond the floor into the mirror.
+fn copy_entries(s: &mut [u32], floor: usize, len: usize)
+    requires { ⌜ Sound (now s) ⌝ }
+    requires { ⌜ (floor ≡ at syncFloor 0 (now s)) × (len ≡ at trailLength 0 (now s)) ⌝ }
+    ensures { λ _. ⌜ now (s .exit) ≡ copiedWords (now (s .entry)) ⌝ }
+{
+    let mut i = floor;
+    while i < len {
+        let v = read::trail_variable(s, i);
+        write::mirrored(s, i, v);
+        i += 1;
+    }
+}
+
+// Makes the mirror the trail, and the floor its length.
+fn renew_mirror(s: &mut [u32])
+    requires { ⌜ Sound (now s) ⌝ }
+    ensures { λ _. ⌜ now (s .exit) ≡ mirroredWords (now (s .entry)) ⌝ }
+{
+    let floor = wide(read::sync_floor(s));
+    let len = read::trail_length(s);
+    copy_entries(s, floor, wide(len));
+    write::mirror_length(s, len);
+    write::sync_floor(s, len);
+}
+
+// How many entries are touched.
+fn touches(s: &[u32]) -> u32
+    requires { ⌜ Sound (now s) ⌝ }
+    ensures { λ r. ⌜ r ≡ touchesIn (now (s .entry)) ⌝ }
+{
+    let floor = read::sync_floor(s);
+    let old = read::mirror_length(s) - floor;
+    old + (read::trail_length(s) - floor)
+}
+
+pub fn sync(s: &mut [u32]) -> Synced
+    requires { ⌜ Sound (now s) ⌝ }
+    ensures { λ r. ⌜ (r ≡ Touches (touchesIn (now (s .entry)))) × (now (s .exit) ≡ syncInStore (now (s .entry))) ⌝ }
+{
+    let n = touches(s);
+    let mut t: [bool; PLACES] = [false; PLACES];
+    table::enter_touched(s, &mut t);
+    wake_clauses(s, &t);
+    spoil_caches(s, &t);
+    renew_mirror(s);
+    Synced::Touches(n)
+}
