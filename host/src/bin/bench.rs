@@ -166,7 +166,7 @@ fn timed(call: &Call, store: &mut Store) {
         Call::UndoUntil(level) => drop(black_box(store.undo_until(*level))),
         Call::Next => drop(black_box(store.next_unpropagated())),
         Call::Register { parent, requirement, condition, clause } => {
-            drop(black_box(store.register(*parent, *requirement, *condition, *clause)))
+            let _ = black_box(store.register(*parent, *requirement, *condition, *clause));
         }
         other => drop(black_box(other.answer(store))),
     }
