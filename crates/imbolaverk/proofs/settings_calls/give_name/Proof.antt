@@ -1,0 +1,23 @@
+use mathlib.Core.Path.{refl}
+use borrow.Author.Needs.{needs}
+use Rattle.imbolaverk.proofs.settings_calls.give_name.Statement.{statement}
+use Rattle.imbolaverk.proofs.settings_calls.give_name.Tie as tie
+
+enum-known-answer : tie.Need-enum-known-answer
+enum-known-answer c = search needs
+
+set-two-requires : tie.Need-set-two-requires
+set-two-requires c κs = search needs
+
+enum-known-answer-2 : tie.Need-enum-known-answer-2
+enum-known-answer-2 c = search needs
+
+returns : tie.Need-returns
+returns c = rw (c .before .before .before .answer .given .1) (refl, c .set-two .ensures)
+
+returns-2 : tie.Need-returns-2
+returns-2 c = search needs
+
+pub give-name-spec : {M : Type 1} → statement M
+give-name-spec =
+    tie.close (tie.spec enum-known-answer set-two-requires enum-known-answer-2 returns returns-2)

@@ -1,0 +1,3 @@
+pub mod CopyTrail
+pub mod Written
+pub mod Proposed

@@ -1,0 +1,28 @@
+// Registering clauses.
+ghost use mathlib.Core.Path.{_≡_};
+ghost use Rattle.clauses.specs.Register.{registerOut, registerStore, registeredNumber};
+use clauses::Registered;
+
+fn registered_number(answer: Registered) -> u32
+    ensures { λ r. ⌜ r ≡ registeredNumber answer ⌝ }
+{
+    match answer {
+        Registered::Done => 0,
+        Registered::Refused(n) => n,
+    }
+}
+
+// Registers a clause; its condition is a disjunction, or 4,294,967,295 for none.
+#[no_mangle]
+pub extern "C" fn imb_register(
+    s: &mut [u32],
+    parent: u32,
+    kind: u32,
+    requirement: u32,
+    condition: u32,
+    clause: u32,
+) -> u32
+    ensures { λ r. ⌜ (r ≡ registeredNumber (registerOut (now (s .entry)) parent kind requirement condition)) × (now (s .exit) ≡ registerStore (now (s .entry)) parent kind requirement condition clause) ⌝ }
+{
+    registered_number(clauses::register(s, parent, kind, requirement, condition, clause))
+}

@@ -1,0 +1,81 @@
+// The settings: hot names, activities, the mode.
+ghost use mathlib.Core.Path.{_≡_};
+ghost use Rattle.imbolaverk.specs.Written.{written};
+ghost use Rattle.settings.specs.Settings.{hotOut, hotStore, activityOut, activityStore, modeOut, modeStore, tunedNumber, modeNow, modeNumber, modeValues, nameNow, nameNumber, nameValues};
+use crate::out;
+use settings::Mode;
+use settings::Name;
+use settings::Tuned;
+
+fn tuned_number(answer: Tuned) -> u32
+    ensures { λ r. ⌜ r ≡ tunedNumber answer ⌝ }
+{
+    match answer {
+        Tuned::Done => 0,
+        Tuned::Refused(n) => n,
+    }
+}
+
+fn give_mode(answer: Mode, out: &mut [u32; 1]) -> u32
+    ensures { λ r. ⌜ (r ≡ modeNumber answer) × (now (out .exit) ≡ written (modeValues answer) (now (out .entry))) ⌝ }
+{
+    match answer {
+        Mode::Is(mode) => {
+            out::set_one(out, mode);
+            0
+        }
+        Mode::Refused(n) => n,
+    }
+}
+
+fn give_name(answer: Name, out: &mut [u32; 2]) -> u32
+    ensures { λ r. ⌜ (r ≡ nameNumber answer) × (now (out .exit) ≡ written (nameValues answer) (now (out .entry))) ⌝ }
+{
+    match answer {
+        Name::Is { activity, hot } => {
+            out::set_two(out, activity, hot);
+            0
+        }
+        Name::Refused(n) => n,
+    }
+}
+
+// Makes a name hot, for good.
+#[no_mangle]
+pub extern "C" fn imb_mark_hot(s: &mut [u32], name: u32) -> u32
+    ensures { λ r. ⌜ (r ≡ tunedNumber (hotOut (now (s .entry)) name)) × (now (s .exit) ≡ hotStore (now (s .entry)) name) ⌝ }
+{
+    tuned_number(settings::mark_hot(s, name))
+}
+
+// Gives a name an activity.
+#[no_mangle]
+pub extern "C" fn imb_set_activity(s: &mut [u32], name: u32, activity: f32) -> u32
+    ensures { λ r. ⌜ (r ≡ tunedNumber (activityOut (now (s .entry)) name activity)) × (now (s .exit) ≡ activityStore (now (s .entry)) name activity) ⌝ }
+{
+    tuned_number(settings::set_activity(s, name, activity))
+}
+
+// Sets the mode: 1 standard, 0 not.
+#[no_mangle]
+pub extern "C" fn imb_set_mode(s: &mut [u32], mode: u32) -> u32
+    ensures { λ r. ⌜ (r ≡ tunedNumber (modeOut (now (s .entry)) mode)) × (now (s .exit) ≡ modeStore (now (s .entry)) mode) ⌝ }
+{
+    tuned_number(settings::set_mode(s, mode))
+}
+
+// The mode.
+#[no_mangle]
+pub extern "C" fn imb_settings(s: &[u32], out: &mut [u32; 1]) -> u32
+    ensures { λ r. ⌜ (r ≡ modeNumber (modeNow (now (s .entry)))) × (now (out .exit) ≡ written (modeValues (modeNow (now (s .entry)))) (now (out .entry))) ⌝ }
+{
+    give_mode(settings::mode_of(s), out)
+}
+
+// The bits of a name's activity, and whether it is hot.
+#[no_mangle]
+pub extern "C" fn imb_name(s: &[u32], name: u32, out: &mut [u32; 2]) -> u32
+    ensures { λ r. ⌜ (r ≡ nameNumber (nameNow (now (s .entry)) name)) × (now (out .exit) ≡ written (nameValues (nameNow (now (s .entry)) name)) (now (out .entry))) ⌝ }
+{
+    give_name(settings::name_of(s, name), out)
+}
