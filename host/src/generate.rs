@@ -347,7 +347,9 @@ impl Script {
     }
 
     fn wrong(&mut self) {
-        let (a, b, c, d) = (self.wild(), self.wild(), self.wild(), self.wild());
+        let (a, b, c) = (self.wild(), self.wild(), self.wild());
+        // The original cannot hold the largest id, so clause ids stay below it.
+        let clause = self.dice.below(u32::MAX);
         let bit = self.dice.below(2);
         let call = match self.dice.below(14) {
             0 => format!("vs {a} {b}"),
@@ -356,10 +358,10 @@ impl Script {
             3 => format!("cand u {a} {b} ; {c}"),
             4 => format!("disj {a} {b} {bit}"),
             5 => format!("node {a} and {b} {c}"),
-            6 => format!("register {a} s {b} {c} {d}"),
+            6 => format!("register {a} s {b} {c} {clause}"),
             7 => format!("hot {a}"),
             8 => format!("activity {a} {b}"),
-            9 => format!("assign {a} {bit} {b} {c}"),
+            9 => format!("assign {a} {bit} {b} {clause}"),
             10 => format!("undo_until {a}"),
             11 => format!("dnf {a}"),
             12 => format!("lookup u {a}"),

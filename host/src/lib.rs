@@ -290,9 +290,10 @@ impl Store {
 
     pub fn register(&mut self, parent: u32, requirement: Requirement, condition: Condition, clause: u32) -> Result<(), Refusal> {
         let (kind, id) = requirement.words();
+        // The largest number means no condition, so as a disjunction's id it becomes another one that is out of range.
         let condition = match condition {
             Condition::None => u32::MAX,
-            Condition::Disjunction(id) => id,
+            Condition::Disjunction(id) => id.min(u32::MAX - 1),
         };
         let (s, n) = self.lent();
         done(unsafe { raw::imb_register(s, n, parent, kind, id, condition, clause) })

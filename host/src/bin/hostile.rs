@@ -24,11 +24,12 @@ fn main() {
     let mut words = vec![0u32; Store::size() + GUARD];
     let mut length = Store::size();
     let mut lists = Lists::new();
+    let stores = reached(&mut dice);
     let step = (wanted / 10).max(1);
     for call in 0..wanted {
         if call % 50 == 0 {
-            length = fill(&mut dice, &mut words);
-        } else if dice.often(3) {
+            length = fill(&mut dice, &mut words, &stores);
+        } else if dice.often(1) {
             damage(&mut dice, &mut words);
         }
         let number = attempt(&mut dice, &mut words, length, &mut lists);
@@ -58,17 +59,12 @@ fn watch() {
     }
 }
 
-/// New words for the next calls; answers how many of them are lent.
-fn fill(dice: &mut Dice, words: &mut [u32]) -> usize {
-    let size = Store::size();
-    match dice.below(10) {
-        0 => words.iter_mut().for_each(|word| *word = dice.roll() as u32),
-        1 => words.iter_mut().for_each(|word| *word = dice.below(3)),
-        2 => words.fill(dice.pick(&[0, 1, u32::MAX, 0x8000_0000])),
-        _ => {
+/// Some stores that calls reach.
+fn reached(dice: &mut Dice) -> Vec<Store> {
+    (0..400)
+        .map(|_| {
             let (_, profile) = dice.pick(&PROFILES);
-            let seed = dice.roll();
-            let lines = script(profile, seed);
+            let lines = script(profile, dice.roll());
             let part = dice.below(lines.len() as u32 + 1) as usize;
             let mut store = Store::new();
             for line in &lines[..part] {
@@ -76,13 +72,27 @@ fn fill(dice: &mut Dice, words: &mut [u32]) -> usize {
                     call.answer(&mut store);
                 }
             }
-            words[..size].copy_from_slice(store.words());
-            if dice.often(50) {
+            store
+        })
+        .collect()
+}
+
+/// New words for the next calls; answers how many of them are lent.
+fn fill(dice: &mut Dice, words: &mut [u32], stores: &[Store]) -> usize {
+    let size = Store::size();
+    match dice.below(20) {
+        0 => words.iter_mut().for_each(|word| *word = dice.roll() as u32),
+        1 => words.iter_mut().for_each(|word| *word = dice.below(3)),
+        2 => words.fill(dice.pick(&[0, 1, u32::MAX, 0x8000_0000])),
+        _ => {
+            let i = dice.below(stores.len() as u32) as usize;
+            words[..size].copy_from_slice(stores[i].words());
+            if dice.often(40) {
                 damage(dice, words);
             }
         }
     }
-    match dice.below(12) {
+    match dice.below(16) {
         0 => dice.below(size as u32) as usize,
         1 => size - 1,
         2 => size + GUARD / 2,
@@ -145,13 +155,25 @@ fn small(dice: &mut Dice) -> u32 {
     }
 }
 
+/// A number of a few kinds, now and then another.
+fn few(x: u32) -> u32 {
+    if x < 100 {
+        x % 3
+    } else {
+        x
+    }
+}
+
 /// One call with any arguments, and what must hold of it.
 fn attempt(dice: &mut Dice, words: &mut [u32], length: usize, lists: &mut Lists) -> u32 {
+    let kind = dice.below(25);
     lists.fill(dice);
+    if kind == 23 {
+        lists.a.iter_mut().for_each(|word| *word = few(*word));
+    }
     lists.before.clear();
     lists.before.extend_from_slice(words);
     let (a, b, c, d, trail, out) = (lists.a.clone(), lists.b.clone(), lists.c.clone(), lists.d.clone(), lists.trail.clone(), lists.out);
-    let kind = dice.below(25);
     let (number, reads) = made(kind, dice, words, length, lists);
     assert!(number <= 12, "call {kind} answered {number}");
     let lent_same = lists.a == a && lists.b == b && lists.c == c && lists.d == d && lists.trail == trail;
@@ -178,7 +200,6 @@ fn made(kind: u32, dice: &mut Dice, words: &mut [u32], n: usize, lists: &mut Lis
     let s = words.as_mut_ptr();
     let mut any = || small(dice);
     let (p, q, r, t, u) = (any(), any(), any(), any(), any());
-    let few = |x: u32| if x < 100 { x % 3 } else { x };
     let (a, b, c, d) = (&mut lists.a, &mut lists.b, &mut lists.c, &mut lists.d);
     let out = lists.out.as_mut_ptr();
     unsafe {
@@ -206,7 +227,6 @@ fn made(kind: u32, dice: &mut Dice, words: &mut [u32], n: usize, lists: &mut Lis
             21 => (raw::imb_propose(s, n, out), false),
             22 => (raw::imb_rewrite(s, n, p, a.as_mut_ptr(), a.len(), d.as_mut_ptr(), d.len(), out), true),
             23 => {
-                a.iter_mut().for_each(|kind| *kind = few(*kind));
                 let number = raw::imb_disjunct_holds(
                     s,
                     n,
