@@ -1,17 +1,18 @@
 -- DEMANDS 2 AND 3, FOR THE WORDS THAT THE CALLS READ AND WRITE. Assumes nothing.
 use mathlib.Core.Bool.{true, false}
-use mathlib.Core.List.{List}
+use mathlib.Core.List.{List, []}
 use mathlib.Core.Path.{_≡_, refl, ap, sym, _∙_, fun-ext}
 use Prim.Native.Nat.{ℕ}
 use lib.Dec.{eqb}
-use Rattle.evaluate.specs.Standing.{envOf, storeOf}
+use Rattle.evaluate.specs.Standing.{envOf, queueOf, storeOf}
 use Rattle.promises.proofs.Calling.{reached-genuine, reached-on, reached-sound}
 use Rattle.promises.specs.Calls.{Call, ReachedWords, run}
-use Rattle.promises.specs.Six.{SameClauses, SameSix, undropped}
+use Rattle.promises.specs.Six.{SameButMode, SameClauses, SameSix, undropped}
 use Rattle.proposal.proofs.Answers.{proposal-is, synced-store}
 use Rattle.proposal.specs.Propose.{answer, proposalOut, told, unsynced}
 use Rattle.rules.proofs.Demand.{reached-inv, synced-holds}
-use Rattle.rules.specs.Walk.{Environment, walk}
+use Rattle.rules.specs.Invariant.{Holds}
+use Rattle.rules.specs.Walk.{Environment, mode, walk}
 use Rattle.store.specs.Limits.{names}
 use Rattle.evaluate.specs.View.{assigned}
 use Rattle.proposal.specs.declared.Proposal.the-variants.{Refused}
@@ -19,23 +20,26 @@ use Rattle.rules.specs.declared.Out.{Out}
 use Rattle.rules.specs.declared.Out.the-variants.{Nothing, Dead as DeadClause, Choose}
 use Rattle.trail.specs.declared.Value.{Value}
 
+-- the queue of a reached and synced store is right for the present assignment
+pub reached-holds : (w : List ℕ) → ReachedWords w → unsynced w ≡ false → Holds (envOf w) (assigned w) [] (queueOf w)
+reached-holds w r u =
+    let g = reached-genuine w r in
+    rw (fun-ext (g .mapped .told)) (synced-holds (storeOf w) (reached-inv (storeOf w) (g .reached)) (synced-store w (g .sound) u))
+
 -- DEMAND 2: on a reached and synced store the proposal is the walk's, over the clauses, tables, activities, hot names and mode (`envOf w`)
 -- and the present assignment alone; only the number of dropped clauses is the queue's
 pub demand2 : (w : List ℕ) → ReachedWords w → unsynced w ≡ false → proposalOut w ≡ told w (walk (envOf w) (assigned w)) (answer w .drops)
 unfolding proposalOut
-demand2 w r u =
-    let g = reached-genuine w r in
-    let holds = synced-holds (storeOf w) (reached-inv (storeOf w) (g .reached)) (synced-store w (g .sound) u) in
-    rw (reached-sound w r, u) (proposal-is w (g .sound) (rw (fun-ext (g .mapped .told)) holds))
+demand2 w r u = rw (reached-sound w r, u) (proposal-is w (reached-genuine w r .sound) (reached-holds w r u))
 
 -- an unsynced one is refused by 7
 pub unsynced-refused : (w : List ℕ) → ReachedWords w → unsynced w ≡ true → proposalOut w ≡ Refused 7
 unfolding proposalOut
 unsynced-refused w r u = rw (reached-sound w r, u)
 
--- two stores that have the six things in common have one environment
-six-env : (w u : List ℕ) → SameSix w u → envOf w ≡ envOf u
-six-env w u s =
+-- two stores that have all but the mode in common have one environment, but for the mode
+pub env-but-mode : (w u : List ℕ) → SameButMode w u → envOf w ≡ mode (envOf u) ((envOf w) .standard)
+env-but-mode w u s =
     λ i.
     record {
       size = s .clauses-same .counts i;
@@ -47,22 +51,30 @@ six-env w u s =
       activity = fun-ext (s .activities-same) i;
       names = names;
       hot = fun-ext (λ n. ap (λ x. eqb x 1) (s .hot-same n)) i;
-      standard = ap (λ x. eqb x 1) (s .mode-same) i;
+      standard = (envOf w) .standard;
     }
 
--- and are told the same
+-- and are told the same of one answer
 told-same : (w u : List ℕ) → SameClauses w u → (o : Out) (d e : ℕ) → undropped (told w o d) ≡ undropped (told u o e)
 told-same w u s Nothing d e = refl
 told-same w u s (DeadClause c) d e = refl
 told-same w u s (Choose b) d e = rw (s .parents (b .clause), s .ids (b .clause))
 
+-- so they have one proposal where their walks answer alike
+pub one-proposal : (w u : List ℕ) → ReachedWords w → ReachedWords u → unsynced w ≡ false → unsynced u ≡ false → SameButMode w u →
+    walk (mode (envOf u) ((envOf w) .standard)) (assigned u) ≡ walk (envOf u) (assigned u) → undropped (proposalOut w) ≡ undropped (proposalOut u)
+one-proposal w u r q x y s e =
+    rw (demand2 w r x, demand2 u q y)
+    (told-same w u (s .clauses-same) (walk (envOf w) (assigned w)) (answer w .drops) (answer u .drops)
+    ∙ ap (λ (o : Out). undropped (told u o (answer u .drops)))
+    (ap (λ (f : Environment). walk f (assigned w)) (env-but-mode w u s)
+    ∙ ap (λ (a : ℕ → Value). walk (mode (envOf u) ((envOf w) .standard)) a) (fun-ext (s .assignments-same))
+    ∙ e))
+
 -- DEMAND 3: the proposal of a reached and synced store depends on the six things alone, and on no history
 pub demand3 : (w u : List ℕ) → ReachedWords w → ReachedWords u → unsynced w ≡ false → unsynced u ≡ false → SameSix w u → undropped (proposalOut w) ≡ undropped (proposalOut u)
 demand3 w u r q x y s =
-    rw (demand2 w r x, demand2 u q y)
-    (told-same w u (s .clauses-same) (walk (envOf w) (assigned w)) (answer w .drops) (answer u .drops)
-    ∙ ap (λ (e : Environment). undropped (told u (walk e (assigned w)) (answer u .drops))) (six-env w u s)
-    ∙ ap (λ (a : ℕ → Value). undropped (told u (walk (envOf u) a) (answer u .drops))) (fun-ext (s .assignments-same)))
+    one-proposal w u r q x y (s .but-mode) (ap (λ (m : ℕ). walk (mode (envOf u) (eqb m 1)) (assigned u)) (s .mode-same))
 
 -- THE BUTTON COMES BACK: she sees a proposal, then accepts, tries, asks and takes back, in any calls, refused ones included; once the six
 -- things are as they were and the store is synced, the proposal that she left is there again

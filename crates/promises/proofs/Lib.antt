@@ -10,4 +10,9 @@ pub mod CandidateLoading
 pub mod Asking
 pub mod Unchanged
 pub mod Calling
+pub mod Clauses
+pub mod Positions
 pub mod Demands
+pub mod Leaving
+pub mod RefusalOne
+pub mod Results

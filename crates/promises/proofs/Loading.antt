@@ -54,6 +54,10 @@ genuine-untabled s w g sound beside u =
     genuine-stays s w g sound stays
     (subst Reached (sym (store-same s w stays (g .rooted) (λ key. at-same tablesLoaded tableRegion s w tt (u .tables) key))) (g .reached))
 
+-- and the literals that were there
+loading-literals : (w : List ℕ) (r : Loaded) (made : List ℕ) → (r ≡ Done → Untabled made w) → LiteralsStay (leaves r made w) w
+loading-literals w r made f = leaves-either (λ s. LiteralsStay s w) r made w (λ e. f e .literals) (untabled-none w .literals)
+
 -- whatever it answers
 loading-genuine : (w : List ℕ) (r : Loaded) (made : List ℕ) → Genuine w → Sound (leaves r made w) → Beside (leaves r made w) w → (r ≡ Done → Untabled made w) → Genuine (cond (soundShape w) (leaves r made w) w)
 loading-genuine w r made g sound beside f =
@@ -93,6 +97,10 @@ module _ (w : List ℕ) (versionSet name : ℕ) where
 
       still : (a : Area) → T (apart a setNames) → (i : ℕ) → at a i (named w versionSet name) ≡ at a i w
       still a t i = at-kept a setNames versionSet i (name + 1) w t small
+
+  pub load-version-set-literals : LiteralsStay (loadVersionSetInStore w versionSet name) w
+  unfolding loadVersionSetInStore
+  load-version-set-literals = loading-literals w (loadVersionSetIn w versionSet name) (named w versionSet name) set-untabled
 
   pub load-version-set-genuine : Genuine w → Genuine (loadVersionSetStore w versionSet name)
   unfolding loadVersionSetStore loadVersionSetInStore
@@ -170,6 +178,10 @@ module _ (w : List ℕ) (union : ℕ) (members : List ℕ) where
           tables = union-still tableRegion tt tt;
           literals = literals-untouched (membersPut w union members) w (union-still literalsRegion tt tt);
         }
+
+  pub load-union-literals : Sound w → LiteralsStay (loadUnionInStore w union members) w
+  unfolding loadUnionInStore
+  load-union-literals h = loading-literals w (loadUnionIn w union members) (membersPut w union members) (union-untabled h)
 
   pub load-union-genuine : Genuine w → Genuine (loadUnionStore w union members)
   unfolding loadUnionStore loadUnionInStore
@@ -279,6 +291,10 @@ module _ (w : List ℕ) (disjunction : ℕ) (vs signs : List ℕ) where
               };
         }
 
+  pub load-disjunction-literals : Sound w → LiteralsStay (loadDisjunctionInStore w disjunction vs signs) w
+  unfolding loadDisjunctionInStore
+  load-disjunction-literals h = loading-literals w (loadDisjunctionIn w disjunction vs signs) (literalsPut w disjunction vs signs) (literals-untabled h)
+
   pub load-disjunction-genuine : Genuine w → Genuine (loadDisjunctionStore w disjunction vs signs)
   unfolding loadDisjunctionStore loadDisjunctionInStore
   load-disjunction-genuine g =
@@ -308,6 +324,10 @@ module _ (w : List ℕ) (node kind left right : ℕ) where
         tables = node-still e tableRegion tt;
         literals = literals-untouched (nodePut w node kind left right) w (node-still e literalsRegion tt);
       }
+
+  pub load-condition-literals : LiteralsStay (loadConditionInStore w node kind left right) w
+  unfolding loadConditionInStore
+  load-condition-literals = loading-literals w (loadConditionIn w node kind left right) (nodePut w node kind left right) node-untabled
 
   pub load-condition-genuine : Genuine w → Genuine (loadConditionStore w node kind left right)
   unfolding loadConditionStore loadConditionInStore

@@ -8,7 +8,7 @@ use lib.ListN.{length}
 use Rattle.evaluate.specs.Standing.{memoBy, memoOf, mirrorOf, storeOf}
 use Rattle.promises.proofs.Genuine.{Genuine}
 use Rattle.promises.proofs.Trails.{mapped-none, trail-none}
-use Rattle.rules.specs.Store.{fresh}
+use Rattle.rules.specs.Store.{Fresh, fresh}
 use Rattle.store.proofs.Soundness.{fresh-sound, fresh-zero}
 use Rattle.store.specs.Fresh.{freshStore, freshWords}
 use Rattle.store.specs.Layout.{cacheStates, clauseCount, disjunctionSizes, map, mirrorLength, syncFloor, tablesLoaded, trailLength, unionSizes, words}
@@ -19,8 +19,23 @@ module _ (w : List ℕ) (long : words ≤ length w) where
   unfolding mirrorOf
   fresh-mirror = rw (fresh-zero w long mirrorLength tt tt 0)
 
-  words-genuine : Genuine (freshWords w)
+  -- the words stand for a fresh store
+  words-fresh : Fresh (storeOf (freshWords w))
   unfolding memoOf memoBy
+  words-fresh =
+      record {
+        no-size = fresh-zero w long clauseCount tt tt 0;
+        no-entry = trail-none (freshWords w) (fresh-zero w long trailLength tt tt 0);
+        no-mirror = fresh-mirror;
+        at-zero = fresh-zero w long syncFloor tt tt 0;
+        all-dirty = λ key. rw (fresh-zero w long cacheStates tt tt key);
+      }
+
+  pub fresh-is : Fresh (storeOf (freshStore w))
+  unfolding freshStore
+  fresh-is = rw (le-leb words (length w) long) words-fresh
+
+  words-genuine : Genuine (freshWords w)
   words-genuine =
       record {
         sound = fresh-sound w long;
@@ -33,15 +48,7 @@ module _ (w : List ℕ) (long : words ≤ length w) where
               conditions = λ k l h. absurd (omega (arith, l, fresh-zero w long clauseCount tt tt 0));
               literals = λ d h. absurd (h (fresh-zero w long disjunctionSizes tt tt d));
             };
-        reached =
-            fresh {t = storeOf (freshWords w)}
-            (record {
-              no-size = fresh-zero w long clauseCount tt tt 0;
-              no-entry = trail-none (freshWords w) (fresh-zero w long trailLength tt tt 0);
-              no-mirror = fresh-mirror;
-              at-zero = fresh-zero w long syncFloor tt tt 0;
-              all-dirty = λ key. rw (fresh-zero w long cacheStates tt tt key);
-            });
+        reached = fresh words-fresh;
       }
 
   pub fresh-genuine : Genuine (freshStore w)

@@ -189,11 +189,11 @@ lists-stay s w sets tables r key m =
 
 -- the words outside the tables
 module _ (s w : List ℕ) (beside : Beside s w) where
-  at-beside : (a : Area) → T (apart a tablesRegion) → (i : ℕ) → at a i s ≡ at a i w
+  pub at-beside : (a : Area) → T (apart a tablesRegion) → (i : ℕ) → at a i s ≡ at a i w
   unfolding at
   at-beside a t i = rw (beside a t)
 
-  clause-beside : (a : Area) → T (apart a tablesRegion) → (k : ℕ) → ofClause a s k ≡ ofClause a w k
+  pub clause-beside : (a : Area) → T (apart a tablesRegion) → (k : ℕ) → ofClause a s k ≡ ofClause a w k
   unfolding ofClause
   clause-beside a t k = rw (at-beside clauseCount tt 0, at-beside a t k)
 

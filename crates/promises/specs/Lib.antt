@@ -1,2 +1,4 @@
 pub mod Calls
 pub mod Six
+pub mod Leaving
+pub mod History

@@ -18,13 +18,17 @@ pub record SameClauses (w u : List ℕ) : Type 0 where
   pub conditions : (k : ℕ) → literalsAt w (ofClause clauseConditions w k) ≡ literalsAt u (ofClause clauseConditions u k)
   pub ids : (k : ℕ) → ofClause clauseIds w k ≡ ofClause clauseIds u k
 
-pub record SameSix (w u : List ℕ) : Type 0 where
+-- all but the mode
+pub record SameButMode (w u : List ℕ) : Type 0 where
   pub clauses-same : SameClauses w u
   pub tables-same : (key : ℕ) → listsAt w key ≡ listsAt u key
   pub activities-same : (name : ℕ) → at activities name w ≡ at activities name u
   pub hot-same : (name : ℕ) → at hotNames name w ≡ at hotNames name u
-  pub mode-same : at mode 0 w ≡ at mode 0 u
   pub assignments-same : (variable : ℕ) → assigned w variable ≡ assigned u variable
+
+pub record SameSix (w u : List ℕ) : Type 0 where
+  pub but-mode : SameButMode w u
+  pub mode-same : at mode 0 w ≡ at mode 0 u
 
 -- "the drop count aside"
 abbrev pub undropped : Proposal → Proposal

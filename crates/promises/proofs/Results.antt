@@ -1,0 +1,161 @@
+-- WHAT DOCUMENT 01 SAYS OF THE ANSWERS, FOR THE WORDS THAT THE CALLS READ AND WRITE; of refusal 1 see `RefusalOne`, of position order
+-- `Positions`. Assumes nothing.
+use mathlib.Core.Bool.{Bool, true, false, cond, not, _&&_}
+use mathlib.Core.List.{List}
+use mathlib.Core.Logic.{⊎-elim, _↔_, _≢_}
+use mathlib.Core.Path.{_≡_, refl, ap, sym, _∙_, fun-ext}
+use Prim.Native.Nat.{ℕ, zero, suc, _+_, _-_, _*_, _≤_, _<_}
+use native.Mathlib.Omega.{arith}
+use borrow.Author.Tests.{eqb-false}
+use lib.Dec.{T, eqb, eqb→eq}
+use lib.ListN.{length}
+use Rattle.evaluate.proofs.Froms.{length-mirror, length-trail}
+use Rattle.evaluate.specs.Standing.{envOf, markOf, queueOf, storeOf}
+use Rattle.evaluate.specs.View.{assigned, from, listAt, listsAt}
+use Rattle.promises.proofs.Asking.{ask-is}
+use Rattle.promises.proofs.Calling.{reached-genuine, reached-sound}
+use Rattle.promises.proofs.Demands.{demand2, one-proposal, reached-holds}
+use Rattle.promises.proofs.Genuine.{Genuine}
+use Rattle.promises.proofs.Leaving.{tally-is, walk-leaves}
+use Rattle.promises.specs.Calls.{ReachedWords, numberOf, propose}
+use Rattle.promises.specs.Leaving.{dropsOf, examined, marked, notOpen, queueSize}
+use Rattle.promises.specs.Six.{SameButMode, undropped}
+use Rattle.proposal.proofs.Kept.{answer-along}
+use Rattle.proposal.proofs.Steps.{name-below}
+use Rattle.proposal.specs.Propose.{answer, proposalIn, proposalInStore, proposalNumber, proposalOut, proposalStore, told, unsynced}
+use Rattle.rules.proofs.Bools.{or-cases}
+use Rattle.rules.proofs.Drops.{drops-of}
+use Rattle.rules.proofs.Modes.{modes}
+use Rattle.rules.proofs.Nothing.{nothing-iff}
+use Rattle.rules.proofs.Sweeps.{routes-same}
+use Rattle.rules.specs.Queue.{Queue, propose as ruled}
+use Rattle.rules.specs.Store.{Store, ask, asked}
+use Rattle.rules.specs.Sync.{routes}
+use Rattle.rules.specs.Walk.{look, member, mode, named, ranks, walk}
+use Rattle.store.proofs.AreaLaws.{at-past}
+use Rattle.store.proofs.Choice.{lt-or}
+use Rattle.store.specs.Area.{at}
+use Rattle.store.specs.Layout.{activities, clauseCount, hotNames, mirrorLength, syncFloor, trailLength}
+use Rattle.store.specs.Limits.{names}
+use Rattle.sync.proofs.Mirrored.{touches-are}
+use Rattle.sync.proofs.Standing.{sync-is}
+use Rattle.sync.specs.Sync.{syncOut, syncStore, touchedIn}
+use Rattle.proposal.specs.declared.Proposal.the-variants.{Nothing as NoneOpen, Dead as DeadAt, Refused}
+use Rattle.rules.specs.declared.Out.{Out}
+use Rattle.rules.specs.declared.Out.the-variants.{Nothing, Dead as DeadClause, Choose}
+use Rattle.rules.specs.declared.Seen.the-variants.{Shut, Gone}
+use Rattle.sync.specs.declared.Synced.the-variants.{Touches}
+use Rattle.trail.specs.declared.Value.{Value}
+
+module _ (w : List ℕ) (r : ReachedWords w) where
+  module _ (u : unsynced w ≡ false) where
+    -- the proposal, drop count aside, is what the walk's answer tells
+    as-walked : (o : Out) → walk (envOf w) (assigned w) ≡ o → undropped (proposalOut w) ≡ undropped (told w o 0)
+    as-walked o e = rw (demand2 w r u, e) (aside o (answer w .drops))
+      where
+        aside : (p : Out) (d : ℕ) → undropped (told w p d) ≡ undropped (told w p 0)
+        aside Nothing d = refl
+        aside (DeadClause c) d = refl
+        aside (Choose b) d = refl
+
+    -- "nothing is answered exactly when no clause is open"
+    pub nothing-exactly : (undropped (proposalOut w) ≡ NoneOpen 0) ↔ ((k : ℕ) → k < at clauseCount 0 w → look (envOf w) (assigned w) k ≡ Shut)
+    nothing-exactly =
+        (λ e. nothing-iff (envOf w) (assigned w) .0 (back (walk (envOf w) (assigned w)) (sym (as-walked _ refl) ∙ e)), λ h. as-walked Nothing (nothing-iff (envOf w) (assigned w) .1 h))
+      where
+        back : (o : Out) → undropped (told w o 0) ≡ NoneOpen 0 → o ≡ Nothing
+        back Nothing e = refl
+        back (DeadClause c) e = cc
+        back (Choose b) e = cc
+
+    -- "A dead clause examined is refusal 8", "its clause id comes too"
+    pub dead-exactly : (clause : ℕ) → (undropped (proposalOut w) ≡ DeadAt clause 0) ↔ (walk (envOf w) (assigned w) ≡ DeadClause clause)
+    dead-exactly clause = (λ e. back (walk (envOf w) (assigned w)) (sym (as-walked _ refl) ∙ e), as-walked (DeadClause clause))
+      where
+        back : (o : Out) → undropped (told w o 0) ≡ DeadAt clause 0 → o ≡ DeadClause clause
+        back Nothing e = cc
+        back (DeadClause c) e = cc
+        back (Choose b) e = cc
+
+    -- and the number is 8 then alone
+    pub eight-exactly : (numberOf w propose ≡ 8) ↔ ((clause : ℕ) × (walk (envOf w) (assigned w) ≡ DeadClause clause))
+    unfolding numberOf
+    eight-exactly = (λ e. back (walk (envOf w) (assigned w)) refl (sym (ap proposalNumber (demand2 w r u)) ∙ e), λ d. rw (demand2 w r u, d .1))
+      where
+        back : (o : Out) → walk (envOf w) (assigned w) ≡ o → proposalNumber (told w o (answer w .drops)) ≡ 8 → (clause : ℕ) × (walk (envOf w) (assigned w) ≡ DeadClause clause)
+        back Nothing q e = absurd (omega (arith, e))
+        back (DeadClause c) q e = (c, q)
+        back (Choose b) q e = absurd (omega (arith, e))
+
+    -- "A clause leaves the queue exactly when the walk examines it queued and finds it not open"; and none enters
+    pub leaves-exactly : (k : ℕ) → markOf (proposalStore w) k ≡ markOf w k && not (examined w k && notOpen (look (envOf w) (assigned w) k))
+    unfolding proposalStore proposalInStore
+    leaves-exactly k =
+        rw (reached-sound w r, u)
+        (ap (λ (q : Queue). q .mark k) (answer-along w (reached-genuine w r .sound) .2 .0) ∙ walk-leaves (envOf w) (assigned w) (queueOf w) (reached-holds w r u) k)
+
+  -- "drops are the queue's size before less after"
+  pub drops-are-counted : queueSize w ≡ queueSize (proposalStore w) + dropsOf (proposalOut w)
+  unfolding proposalOut proposalStore proposalIn
+  drops-are-counted = rw (reached-sound w r) (go (unsynced w))
+    where
+      dropped : (o : Out) (d : ℕ) → dropsOf (told w o d) ≡ d
+      dropped Nothing d = refl
+      dropped (DeadClause c) d = refl
+      dropped (Choose b) d = refl
+
+      g : Genuine w
+      g = reached-genuine w r
+
+      walked : answer w .drops ≡ (asked (storeOf w)) .drops
+      walked = answer-along w (g .sound) .1 ∙ ap (λ (a : ℕ → Value). (ruled (envOf w) a (queueOf w)) .drops) (fun-ext (g .mapped .told))
+
+      go : (b : Bool) → queueSize w ≡ queueSize (cond b w (proposalInStore w)) + dropsOf (cond b (Refused 7) (told w (answer w .out) (answer w .drops)))
+      go true = omega arith
+      go false =
+          let before = tally-is (markOf w) (ranks (at clauseCount 0 w)) in
+          let after = tally-is ((ask (storeOf w)) .queue .mark) (ranks (at clauseCount 0 w)) in
+          let left = ap (λ (t : Store). length (marked (t .queue .mark) (ranks (t .env .size)))) (ask-is w (g .sound) (g .mapped .told)) in
+          omega (arith, before, after, left, dropped (answer w .out) (answer w .drops), walked, drops-of (storeOf w))
+
+  -- "touches are the mirror's length plus the trail's, less twice the floor"
+  pub touches-are-counted : syncOut w ≡ Touches (at mirrorLength 0 w + at trailLength 0 w - 2 * at syncFloor 0 w)
+  unfolding syncOut
+  touches-are-counted =
+      let h = reached-genuine w r .sound in
+      rw (reached-sound w r, touches-are w h, length-mirror w h, length-trail w)
+
+  -- the touched variables, routed one after the other in any order and with any repeats, give the queue that sync leaves
+  pub sync-any-order : (touched : List ℕ) → ((v : ℕ) → member v touched ≡ member v (touchedIn w)) → queueOf (syncStore w) ≡ routes (envOf w) (assigned w) touched (queueOf w)
+  unfolding syncStore
+  sync-any-order touched same =
+      rw (reached-sound w r) (sync-is w (reached-genuine w r .sound) ∙ sym (routes-same touched (touchedIn w) same (envOf w) (assigned w) (queueOf w)))
+
+-- "Where no open clause is dead and every cold name's activity is zero, both modes give the same proposal, drop count aside"
+module _ (w u : List ℕ) (r : ReachedWords w) (q : ReachedWords u) (same : SameButMode w u)
+    (alive : (k : ℕ) → k < at clauseCount 0 u → look (envOf u) (assigned u) k ≢ Gone)
+    (cold : (name : ℕ) → name < names → at hotNames name u ≢ 1 → at activities name u ≡ 0) where
+  cold-zero : (name : ℕ) → eqb (at hotNames name u) 1 ≡ false → at activities name u ≡ 0
+  cold-zero name e =
+      ⊎-elim (λ (l : name < names). cold name l (eqb-false (at hotNames name u) 1 e)) (λ (l : names ≤ name). at-past activities name u l) (lt-or name names)
+
+  -- a name of a candidate list is in range
+  in-range : (n slot count : ℕ) → T (named n (from (listAt u) slot count)) → n < names
+  unfolding from named listAt
+  in-range n slot zero t = absurd t
+  in-range n slot (suc count) t =
+      ⊎-elim (λ (l : T (eqb n ((listAt u slot) .name))). name-below u slot n (reached-genuine u q .sound) (eqb→eq n ((listAt u slot) .name) l))
+      (in-range n (slot + 1) count) (or-cases (eqb n ((listAt u slot) .name)) (named n (from (listAt u) (slot + 1) count)) t)
+
+  any-mode : (b c : Bool) → walk (mode (envOf u) b) (assigned u) ≡ walk (mode (envOf u) c) (assigned u)
+  unfolding listsAt
+  any-mode b c = go b c (modes (envOf u) (assigned u) alive cold-zero (λ k n l t. in-range n _ _ t))
+    where
+      go : (b c : Bool) → walk (mode (envOf u) true) (assigned u) ≡ walk (mode (envOf u) false) (assigned u) → walk (mode (envOf u) b) (assigned u) ≡ walk (mode (envOf u) c) (assigned u)
+      go true true e = refl
+      go true false e = e
+      go false true e = sym e
+      go false false e = refl
+
+  pub modes-agree : unsynced w ≡ false → unsynced u ≡ false → undropped (proposalOut w) ≡ undropped (proposalOut u)
+  modes-agree x y = one-proposal w u r q x y same (any-mode ((envOf w) .standard) ((envOf u) .standard))
