@@ -185,7 +185,7 @@ uint32_t imb_disjunct_holds(const uint32_t *s, size_t s_len, const uint32_t *kin
                             size_t starts_len, const uint32_t *lengths, size_t lengths_len, const uint32_t *cells, size_t cells_len,
                             uint32_t out[1]);
 
-/* ---- the queue: not in the library yet */
+/* ---- the queue */
 
 /* Brings the queue up to the trail: out = [touches]. */
 uint32_t imb_sync(uint32_t *s, size_t s_len, uint32_t out[1]);
