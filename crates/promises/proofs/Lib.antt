@@ -16,3 +16,5 @@ pub mod Demands
 pub mod Leaving
 pub mod RefusalOne
 pub mod Results
+pub mod Stepping
+pub mod Edges
