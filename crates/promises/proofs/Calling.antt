@@ -12,7 +12,7 @@ use Rattle.promises.proofs.Registering.{register-genuine}
 use Rattle.promises.proofs.Setting.{mark-hot-genuine, set-activity-genuine, set-mode-genuine}
 use Rattle.promises.proofs.Starting.{fresh-genuine}
 use Rattle.promises.proofs.Trailing.{assign-genuine, next-genuine, undo-last-genuine, undo-until-genuine}
-use Rattle.promises.specs.Calls.{Call, fresh, load-version-set, load-union, load-candidates, load-disjunction, load-condition, register, mark-hot, set-activity, set-mode, assign, undo-last, undo-until, next-unpropagated, sync, propose, value-of, clause-of, trail-length, copy-candidates, rewrite, disjunct-holds, settings, name-of, ReachedWords, leftBy, run}
+use Rattle.promises.specs.Calls.{Call, fresh, load-version-set, load-union, load-candidates, load-disjunction, load-condition, register, mark-hot, set-activity, set-mode, assign, undo-last, undo-until, next-unpropagated, sync, propose, value-of, clause-of, trail-length, copy-trail, copy-candidates, rewrite, disjunct-holds, settings, name-of, ReachedWords, leftBy, run}
 use Rattle.store.proofs.Soundness.{sound-shape}
 use Rattle.store.specs.Fresh.{freshStore}
 use Rattle.store.specs.Shape.{soundShape}
@@ -38,6 +38,7 @@ call-genuine w propose g = propose-genuine w g
 call-genuine w (value-of variable) g = g
 call-genuine w (clause-of variable) g = g
 call-genuine w trail-length g = g
+call-genuine w (copy-trail list) g = g
 call-genuine w (copy-candidates kind id lengths cells) g = g
 call-genuine w (rewrite node lengths cells) g = g
 call-genuine w (disjunct-holds kinds starts lengths cells) g = g

@@ -14,7 +14,7 @@ use Rattle.promises.proofs.Clauses.{assign-clauses, load-candidates-cla
 use Rattle.promises.proofs.Genuine.{Genuine}
 use Rattle.promises.proofs.Registering.{register-is}
 use Rattle.promises.proofs.Starting.{fresh-genuine, fresh-is}
-use Rattle.promises.specs.Calls.{Call, fresh, load-version-set, load-union, load-candidates, load-disjunction, load-condition, register, mark-hot, set-activity, set-mode, assign, undo-last, undo-until, next-unpropagated, sync, propose, value-of, clause-of, trail-length, copy-candidates, rewrite, disjunct-holds, settings, name-of, leftBy, run}
+use Rattle.promises.specs.Calls.{Call, fresh, load-version-set, load-union, load-candidates, load-disjunction, load-condition, register, mark-hot, set-activity, set-mode, assign, undo-last, undo-until, next-unpropagated, sync, propose, value-of, clause-of, trail-length, copy-trail, copy-candidates, rewrite, disjunct-holds, settings, name-of, leftBy, run}
 use Rattle.promises.specs.History.{filing, filings, ifMade, ifRegistered}
 use Rattle.promises.specs.Six.{SameClauses}
 use Rattle.requirement.specs.Tables.{keyAt}
@@ -155,6 +155,7 @@ call-follows w propose h g f = stays _ w h (propose-clauses w g) f
 call-follows w (value-of variable) h g f = f
 call-follows w (clause-of variable) h g f = f
 call-follows w trail-length h g f = f
+call-follows w (copy-trail list) h g f = f
 call-follows w (copy-candidates kind id lengths cells) h g f = f
 call-follows w (rewrite node lengths cells) h g f = f
 call-follows w (disjunct-holds kinds starts lengths cells) h g f = f

@@ -13,10 +13,12 @@ use Rattle.conditions.specs.Disjunct.{disjunctIn, disjunctOut, holdsAt, holdsNu
 use Rattle.conditions.specs.Dnf.{terms}
 use Rattle.conditions.specs.Rewrite.{rewriteIn, rewriteOut, rewrittenNumber, tooMuch}
 use Rattle.promises.proofs.Calling.{reached-genuine, reached-sound}
-use Rattle.promises.specs.Calls.{Call, fresh, load-version-set, load-union, load-candidates, load-disjunction, load-condition, register, mark-hot, set-activity, set-mode, assign, undo-last, undo-until, next-unpropagated, sync, propose, value-of, clause-of, trail-length, copy-candidates, rewrite, disjunct-holds, settings, name-of, ReachedWords, numberOf}
+use Rattle.promises.specs.Calls.{Call, fresh, load-version-set, load-union, load-candidates, load-disjunction, load-condition, register, mark-hot, set-activity, set-mode, assign, undo-last, undo-until, next-unpropagated, sync, propose, value-of, clause-of, trail-length, copy-trail, copy-candidates, rewrite, disjunct-holds, settings, name-of, ReachedWords, numberOf}
 use Rattle.proposal.specs.Propose.{answer, proposalIn, proposalNumber, proposalOut, told, unsynced}
 use Rattle.requirement.specs.Copy.{copiedNumber, copyIn, copyOut, joined, tableOf, tabled}
 use Rattle.requirement.specs.Load.{fitting, loadIn, loadOut, loadedNumber as tableNumber}
+use Rattle.imbolaverk.specs.CopyTrail.{copyOut as trailOut, fitted}
+use Rattle.trail.specs.declared.Length.the-variants.{Entries, Refused as LengthRefused}
 use Rattle.requirement.specs.Tables.{keyAt, listCount, setCount}
 use Rattle.settings.specs.Activity.{admitted}
 use Rattle.settings.specs.Settings.{activityFor, activityIn, activityOn, activityOut, hotIn, hotOut, modeIn, modeNow, modeNumber, modeOut, nameIn, nameNow, nameNumber, quiet, tunedNumber}
@@ -36,7 +38,7 @@ use Rattle.tables.specs.VersionSet.{loadVersionSetIn, loadVersionSetOut, setLoa
 use Rattle.trail.specs.Assign.{assignIn, assignOn, assignOut, assignedNumber}
 use Rattle.trail.specs.Cell.{cellSide}
 use Rattle.trail.specs.Entries.{entries}
-use Rattle.trail.specs.Look.{causeNumber, clauseIn, clauseOut, firstEntry, lengthNumber, lengthOut, valueIn, valueOut, valuedNumber}
+use Rattle.trail.specs.Look.{causeNumber, clauseIn, clauseOut, firstEntry, lengthIn, lengthNumber, lengthOut, valueIn, valueOut, valuedNumber}
 use Rattle.trail.specs.Next.{nextIn, nextNumber, nextOut}
 use Rattle.trail.specs.UndoLast.{undoLastIn, undoLastOut, undoneNumber}
 use Rattle.trail.specs.UndoUntil.{noStop, undoUntilIn, undoUntilOut, untilNumber}
@@ -76,6 +78,15 @@ module _ (w : List ℕ) where
   abbrev OneBy : Call → Type 0
   OneBy c = (numberOf w c ≡ 1) ↔ (soundShape w ≡ false)
 
+-- copying the trail out is refused with 1 as asking for its length is
+trail-one : (w : List ℕ) (room : ℕ) → (lengthNumber (trailOut w room) ≡ 1) ↔ (soundShape w ≡ false)
+unfolding trailOut lengthOut
+trail-one w room = go (soundShape w)
+  where
+    go : (b : Bool) → (lengthNumber (fitted room (cond b (lengthIn w) (LengthRefused 1))) ≡ 1) ↔ (b ≡ false)
+    go false = (λ e. refl, λ e. refl)
+    go true = by-shape lengthNumber true (cond (ltb room (entries w)) (LengthRefused 3) (Entries (entries w))) (LengthRefused 1) refl (either (ltb room (entries w)) (plain tt) (plain tt))
+
 -- each call but `fresh`
 one-told : (w : List ℕ) (c : Call) → (c ≡ fresh) ⊎ OneBy w c
 unfolding numberOf loadVersionSetOut loadVersionSetIn loadUnionOut loadUnionIn loadOut loadIn loadDisjunctionOut loadDisjunctionIn loadConditionOut loadConditionIn leafIn branchIn registerOut registerIn hotOut hotIn activityOut activityIn modeOut modeIn assignOut assignIn assignOn undoLastOut undoLastIn undoUntilOut undoUntilIn nextOut nextIn syncOut proposalOut proposalIn valueOut valueIn clauseOut clauseIn lengthOut copyOut copyIn rewriteOut rewriteIn disjunctOut disjunctIn modeNow nameNow nameIn
@@ -98,6 +109,7 @@ one-told w propose = inr (by-shape proposalNumber (soundShape w) _ _ refl (eithe
 one-told w (value-of variable) = inr (by-shape valuedNumber (soundShape w) _ _ refl (either (leb variables variable) (plain tt) (either (eqb (at map variable w) 0) (plain tt) (plain tt))))
 one-told w (clause-of variable) = inr (by-shape causeNumber (soundShape w) _ _ refl (either (leb variables variable) (plain tt) (either (ltb (firstEntry w variable) (entries w)) (plain tt) (plain tt))))
 one-told w trail-length = inr (by-shape lengthNumber (soundShape w) _ _ refl (plain tt))
+one-told w (copy-trail list) = inr (trail-one w (length list))
 one-told w (copy-candidates kind id lengths cells) = inr (by-shape copiedNumber (soundShape w) _ _ refl (either (not (tabled w kind id)) (plain tt) (either (ltb (length lengths) (listCount w (keyAt kind id)) || ltb (length cells) (length (joined (tableOf w kind id)))) (plain tt) (plain tt))))
 one-told w (rewrite node lengths cells) = inr (by-shape rewrittenNumber (soundShape w) _ _ refl (either (leb nodes node || eqb (at nodeKinds node w) 0) (plain tt) (either (tooMuch (terms w node) (length lengths) (length cells)) (plain tt) (plain tt))))
 one-told w (disjunct-holds kinds starts lengths cells) = inr (by-shape holdsNumber (soundShape w) _ _ refl (either (not (saneAll kinds starts lengths cells)) (plain tt) (either (allFrom (holdsAt w starts lengths cells) 0 (length kinds)) (plain tt) (plain tt))))

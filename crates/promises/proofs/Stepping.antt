@@ -10,11 +10,13 @@ use Rattle.conditions.specs.Disjunct.{disjunctIn, disjunctOut, holdsNumber, hol
 use Rattle.conditions.specs.Rewrite.{rewriteCells, rewriteIn, rewriteInCells, rewriteInLengths, rewriteLengths, rewriteOut, rewrittenNumber, rewrittenValues}
 use Rattle.promises.proofs.Calling.{call-genuine}
 use Rattle.promises.proofs.Genuine.{Genuine}
-use Rattle.promises.specs.Calls.{Call, fresh, load-version-set, load-union, load-candidates, load-disjunction, load-condition, register, mark-hot, set-activity, set-mode, assign, undo-last, undo-until, next-unpropagated, sync, propose, value-of, clause-of, trail-length, copy-candidates, rewrite, disjunct-holds, settings, name-of, leftBy, numberOf, run, valuesOf}
+use Rattle.promises.specs.Calls.{Call, fresh, load-version-set, load-union, load-candidates, load-disjunction, load-condition, register, mark-hot, set-activity, set-mode, assign, undo-last, undo-until, next-unpropagated, sync, propose, value-of, clause-of, trail-length, copy-trail, copy-candidates, rewrite, disjunct-holds, settings, name-of, leftBy, numberOf, run, valuesOf, wordsOf}
 use Rattle.promises.specs.Scripts.{answers}
 use Rattle.proposal.specs.Propose.{answer, proposalIn, proposalInStore, proposalNumber, proposalOut, proposalStore, proposalValues, told, unsynced}
 use Rattle.proposal.specs.declared.Proposal.{Proposal}
 use Rattle.proposal.specs.declared.Proposal.the-variants.{Refused}
+use Rattle.imbolaverk.specs.CopyTrail.{copied, copiedCount, copyOut as trailOut, fitted}
+use Rattle.trail.specs.declared.Length.the-variants.{Entries}
 use Rattle.requirement.specs.Copy.{copiedNumber, copiedValues, copyCells, copyIn, copyInCells, copyInLengths, copyLengths, copyOut}
 use Rattle.requirement.specs.Load.{loadIn, loadInStore, loadLeft, loadOut, loadStore, loadedNumber as tableNumber}
 use Rattle.requirement.specs.Tables.{keyAt}
@@ -31,7 +33,7 @@ use Rattle.tables.specs.Union.{loadUnionIn, loadUnionInStore, loadUnionOut, loa
 use Rattle.tables.specs.VersionSet.{loadVersionSetIn, loadVersionSetInStore, loadVersionSetOut, loadVersionSetStore, named}
 use Rattle.trail.specs.Assign.{assignIn, assignInStore, assignLeft, assignOut, assignStore, assignedNumber, assignedValues}
 use Rattle.trail.specs.Entries.{entries}
-use Rattle.trail.specs.Look.{causeNumber, causeValues, clauseIn, clauseOut, lengthOut, valueIn, valueOut, valuedNumber, valuedValues}
+use Rattle.trail.specs.Look.{causeNumber, causeValues, clauseIn, clauseOut, lengthOut, valueIn, valueOut, valuedNumber, valuedValues, lengthNumber, lengthValues}
 use Rattle.trail.specs.Next.{nextIn, nextInStore, nextNumber, nextOut, nextStore, nextValues}
 use Rattle.trail.specs.UndoLast.{undoLastIn, undoLastInStore, undoLastOut, undoLastStore, undoneNumber, undoneValues}
 use Rattle.trail.specs.UndoUntil.{undoUntilIn, undoUntilInStore, undoUntilOut, undoUntilStore, untilNumber}
@@ -77,6 +79,9 @@ stepIn w propose = proposed w
 stepIn w (value-of variable) = let r = valueIn w variable in step (valuedNumber r ∷ valuedValues r) w
 stepIn w (clause-of variable) = let r = clauseIn w variable in step (causeNumber r ∷ causeValues r) w
 stepIn w trail-length = step (0 ∷ entries w ∷ []) w
+stepIn w (copy-trail list) =
+    let r = fitted (length list) (Entries (entries w)) in
+    step (lengthNumber r ∷ (lengthValues r ++ wordsOf (copied w list (copiedCount r)))) w
 stepIn w (copy-candidates kind id lengths cells) =
     let r = copyIn w kind id (length lengths) (length cells) in
     step (copiedNumber r ∷ (copiedValues r ++ (copyInLengths w kind id lengths cells ++ copyInCells w kind id lengths cells))) w
@@ -88,7 +93,7 @@ stepIn w settings = step (0 ∷ at mode 0 w ∷ []) w
 stepIn w (name-of name) = let r = nameIn w name in step (nameNumber r ∷ nameValues r) w
 
 pub step-is : (w : List ℕ) → soundShape w ≡ true → (c : Call) → step (numberOf w c ∷ valuesOf w c) (leftBy w c) ≡ stepIn w c
-unfolding loadVersionSetInStore loadUnionInStore loadInStore loadDisjunctionInStore loadConditionInStore registerInStore assignInStore proposalIn proposalInStore numberOf valuesOf leftBy stepIn proposed loadVersionSetOut loadVersionSetStore loadUnionOut loadUnionStore loadOut loadStore loadDisjunctionOut loadDisjunctionStore loadConditionOut loadConditionStore registerOut registerStore hotOut hotStore activityOut activityStore modeOut modeStore assignOut assignStore undoLastOut undoLastStore undoUntilOut undoUntilStore nextOut nextStore syncOut syncStore proposalOut proposalStore valueOut clauseOut lengthOut copyOut copyLengths copyCells rewriteOut rewriteLengths rewriteCells disjunctOut modeNow nameNow
+unfolding loadVersionSetInStore loadUnionInStore loadInStore loadDisjunctionInStore loadConditionInStore registerInStore assignInStore proposalIn proposalInStore numberOf valuesOf leftBy stepIn proposed loadVersionSetOut loadVersionSetStore loadUnionOut loadUnionStore loadOut loadStore loadDisjunctionOut loadDisjunctionStore loadConditionOut loadConditionStore registerOut registerStore hotOut hotStore activityOut activityStore modeOut modeStore assignOut assignStore undoLastOut undoLastStore undoUntilOut undoUntilStore nextOut nextStore syncOut syncStore proposalOut proposalStore valueOut clauseOut lengthOut trailOut copyOut copyLengths copyCells rewriteOut rewriteLengths rewriteCells disjunctOut modeNow nameNow
 step-is w h fresh = refl
 step-is w h (load-version-set set name) = rw h
 step-is w h (load-union union members) = rw h
@@ -112,6 +117,7 @@ step-is w h propose = rw h (go (unsynced w))
 step-is w h (value-of variable) = rw h
 step-is w h (clause-of variable) = rw h
 step-is w h trail-length = rw h
+step-is w h (copy-trail list) = rw h
 step-is w h (copy-candidates kind id lengths cells) = rw h
 step-is w h (rewrite node lengths cells) = rw h
 step-is w h (disjunct-holds kinds starts lengths cells) = rw h

@@ -7,7 +7,7 @@ use Prim.Native.Nat.{ℕ, _-_}
 use lib.Dec.{leb, ltb, eqb}
 use lib.ListN.{length}
 use Rattle.clauses.specs.Register.{registered, registerIn, registerInStore, registerLeft, registerOut, registerStore, registeredNumber}
-use Rattle.promises.specs.Calls.{Call, fresh, load-version-set, load-union, load-candidates, load-disjunction, load-condition, register, mark-hot, set-activity, set-mode, assign, undo-last, undo-until, next-unpropagated, sync, propose, value-of, clause-of, trail-length, copy-candidates, rewrite, disjunct-holds, settings, name-of, leftBy, numberOf}
+use Rattle.promises.specs.Calls.{Call, fresh, load-version-set, load-union, load-candidates, load-disjunction, load-condition, register, mark-hot, set-activity, set-mode, assign, undo-last, undo-until, next-unpropagated, sync, propose, value-of, clause-of, trail-length, copy-trail, copy-candidates, rewrite, disjunct-holds, settings, name-of, leftBy, numberOf}
 use Rattle.proposal.specs.Propose.{answer, proposalIn, proposalInStore, proposalNumber, proposalOut, proposalStore, told, unsynced}
 use Rattle.requirement.specs.Load.{loadIn, loadInStore, loadLeft, loadOut, loadStore, loadedNumber as tableNumber}
 use Rattle.requirement.specs.Tables.{keyAt}
@@ -225,6 +225,7 @@ refused-same w propose h n = propose-same w h n
 refused-same w (value-of variable) h n = refl
 refused-same w (clause-of variable) h n = refl
 refused-same w trail-length h n = refl
+refused-same w (copy-trail list) h n = refl
 refused-same w (copy-candidates kind id lengths cells) h n = refl
 refused-same w (rewrite node lengths cells) h n = refl
 refused-same w (disjunct-holds kinds starts lengths cells) h n = refl

@@ -8,6 +8,8 @@ use lib.ListN.{length}
 use Rattle.clauses.specs.Register.{registerOut, registerStore, registeredNumber}
 use Rattle.conditions.specs.Disjunct.{disjunctOut, holdsNumber, holdsValues}
 use Rattle.conditions.specs.Rewrite.{rewriteCells, rewriteLengths, rewriteOut, rewrittenNumber, rewrittenValues}
+use Rattle.imbolaverk.specs.CopyTrail.{copied, copiedCount, copyOut as trailOut}
+use Rattle.imbolaverk.specs.declared.copy_trail.Decision.{Decision}
 use Rattle.proposal.specs.Propose.{proposalNumber, proposalOut, proposalStore, proposalValues}
 use Rattle.requirement.specs.Copy.{copiedNumber, copiedValues, copyCells, copyLengths, copyOut}
 use Rattle.requirement.specs.Load.{loadOut, loadStore, loadedNumber as tableNumber}
@@ -26,6 +28,11 @@ use Rattle.trail.specs.Next.{nextNumber, nextOut, nextStore, nextValues}
 use Rattle.trail.specs.UndoLast.{undoLastOut, undoLastStore, undoneNumber, undoneValues}
 use Rattle.trail.specs.UndoUntil.{undoUntilOut, undoUntilStore, untilNumber}
 use lib.Ieee.{Float, binary32, fits}
+
+-- a decision's three words
+unfoldable pub wordsOf : List Decision → List ℕ
+wordsOf [] = []
+wordsOf (d ∷ ds) = d .variable ∷ d .value ∷ d .clause ∷ wordsOf ds
 
 -- a call and its arguments; of a lent list that a call fills, what it held
 pub data Call : Type 0 where
@@ -48,6 +55,7 @@ pub data Call : Type 0 where
   value-of : (variable : ℕ) → Call
   clause-of : (variable : ℕ) → Call
   trail-length : Call
+  copy-trail : (list : List Decision) → Call
   copy-candidates : (kind id : ℕ) (lengths cells : List ℕ) → Call
   rewrite : (node : ℕ) (lengths cells : List ℕ) → Call
   disjunct-holds : (kinds starts lengths cells : List ℕ) → Call
@@ -75,6 +83,7 @@ numberOf w propose = proposalNumber (proposalOut w)
 numberOf w (value-of variable) = valuedNumber (valueOut w variable)
 numberOf w (clause-of variable) = causeNumber (clauseOut w variable)
 numberOf w trail-length = lengthNumber (lengthOut w)
+numberOf w (copy-trail list) = lengthNumber (trailOut w (length list))
 numberOf w (copy-candidates kind id lengths cells) = copiedNumber (copyOut w kind id lengths cells)
 numberOf w (rewrite node lengths cells) = rewrittenNumber (rewriteOut w node (length lengths) (length cells))
 numberOf w (disjunct-holds kinds starts lengths cells) = holdsNumber (disjunctOut w kinds starts lengths cells)
@@ -102,6 +111,7 @@ valuesOf w propose = proposalValues (proposalOut w)
 valuesOf w (value-of variable) = valuedValues (valueOut w variable)
 valuesOf w (clause-of variable) = causeValues (clauseOut w variable)
 valuesOf w trail-length = lengthValues (lengthOut w)
+valuesOf w (copy-trail list) = lengthValues (trailOut w (length list)) ++ wordsOf (copied w list (copiedCount (trailOut w (length list))))
 valuesOf w (copy-candidates kind id lengths cells) =
     copiedValues (copyOut w kind id lengths cells) ++ (copyLengths w kind id lengths cells ++ copyCells w kind id lengths cells)
 valuesOf w (rewrite node lengths cells) =
@@ -131,6 +141,7 @@ leftBy w propose = proposalStore w
 leftBy w (value-of variable) = w
 leftBy w (clause-of variable) = w
 leftBy w trail-length = w
+leftBy w (copy-trail list) = w
 leftBy w (copy-candidates kind id lengths cells) = w
 leftBy w (rewrite node lengths cells) = w
 leftBy w (disjunct-holds kinds starts lengths cells) = w

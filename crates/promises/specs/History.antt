@@ -3,7 +3,7 @@ use mathlib.Core.List.{List, [], _∷_}
 use Prim.Native.Nat.{ℕ}
 use Rattle.clauses.specs.Register.{conditionWord, registerOut}
 use Rattle.evaluate.specs.View.{literalsAt}
-use Rattle.promises.specs.Calls.{Call, fresh, load-version-set, load-union, load-candidates, load-disjunction, load-condition, register, mark-hot, set-activity, set-mode, assign, undo-last, undo-until, next-unpropagated, sync, propose, value-of, clause-of, trail-length, copy-candidates, rewrite, disjunct-holds, settings, name-of, leftBy}
+use Rattle.promises.specs.Calls.{Call, fresh, load-version-set, load-union, load-candidates, load-disjunction, load-condition, register, mark-hot, set-activity, set-mode, assign, undo-last, undo-until, next-unpropagated, sync, propose, value-of, clause-of, trail-length, copy-trail, copy-candidates, rewrite, disjunct-holds, settings, name-of, leftBy}
 use Rattle.requirement.specs.Tables.{keyAt}
 use Rattle.rules.specs.Position.{History, filed, noHistory}
 use Rattle.store.specs.Fresh.{freshOut}
@@ -45,6 +45,7 @@ filing w propose h = h
 filing w (value-of variable) h = h
 filing w (clause-of variable) h = h
 filing w trail-length h = h
+filing w (copy-trail list) h = h
 filing w (copy-candidates kind id lengths cells) h = h
 filing w (rewrite node lengths cells) h = h
 filing w (disjunct-holds kinds starts lengths cells) h = h

@@ -30,7 +30,6 @@ abbrev pub _says_ : Call → List ℕ → Line
 c says a = record { call = c; answer = a }
 
 infix 68 _says_
-
 -- the calls of a script, and what they must answer
 abbrev pub calls : List Line → List Call
 calls = map (λ (l : Line). l .call)
