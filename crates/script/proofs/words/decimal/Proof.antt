@@ -1,0 +1,46 @@
+use borrow.Author.Needs.{needs}
+use Prim.Native.Nat.{_-_}
+use lib.ListN.{length}
+use Rattle.script.proofs.words.decimal.Statement.{statement}
+use Rattle.script.proofs.words.decimal.Tie as tie
+
+abbrev Inv-loop : tie.InvT-loop
+Inv-loop word number₀ i₀ number i = Unit {0}
+
+abbrev μ-loop : tie.MeasureT-loop
+μ-loop word number₀ i₀ number i = length word - i
+
+loop-holds : tie.Need-loop-holds Inv-loop μ-loop
+loop-holds c = search needs
+
+shared-slice-read-with-digit : tie.Need-shared-slice-read-with-digit Inv-loop μ-loop
+shared-slice-read-with-digit c = search needs
+
+with-digit-requires : tie.Need-with-digit-requires Inv-loop μ-loop
+with-digit-requires c κs = search needs
+
+add-i : tie.Need-add-i Inv-loop μ-loop
+add-i c = search needs
+
+loop-less : tie.Need-loop-less Inv-loop μ-loop
+loop-less c = search needs
+
+loop-again : tie.Need-loop-again Inv-loop μ-loop
+loop-again c = search needs
+
+returns : tie.Need-returns Inv-loop μ-loop
+returns c = search needs
+
+pub decimal-spec : {M : Type 1} → statement M
+decimal-spec =
+    tie.close
+    (tie.spec
+    Inv-loop
+    μ-loop
+    loop-holds
+    shared-slice-read-with-digit
+    with-digit-requires
+    add-i
+    loop-less
+    loop-again
+    returns)

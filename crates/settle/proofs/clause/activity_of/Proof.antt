@@ -1,0 +1,17 @@
+use borrow.Author.Needs.{needs}
+use native.Mathlib.Omega.{arith}
+use Rattle.settings.proofs.FloatOrder.{no-nan-bits}
+use Rattle.settle.proofs.clause.activity_of.Statement.{statement}
+use Rattle.settle.proofs.clause.activity_of.Tie as tie
+
+float-from-bits-result : tie.Need-float-from-bits-result
+float-from-bits-result c = no-nan-bits _ (omega arith)
+
+returns : tie.Need-returns
+returns c = search needs
+
+returns-2 : tie.Need-returns-2
+returns-2 c = search needs
+
+pub activity-of-spec : {M : Type 1} → statement M
+activity-of-spec = tie.close (tie.spec float-from-bits-result returns returns-2)
