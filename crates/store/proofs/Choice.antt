@@ -27,6 +27,18 @@ pub is-true : (a : Bool) → T a → a ≡ true
 is-true true t = refl
 is-true false t = absurd t
 
+pub of-true : (a : Bool) → a ≡ true → T a
+of-true a h = rw h tt
+
+pub cases : (b : Bool) → (b ≡ true) ⊎ (b ≡ false)
+cases true = inl refl
+cases false = inr refl
+
+-- one of two tests
+pub or-cases : (a b : Bool) → T (a || b) → T a ⊎ T b
+or-cases true b t = inl tt
+or-cases false b t = inr t
+
 pub or-inl : (a b : Bool) → T a → T (a || b)
 or-inl true b t = tt
 or-inl false b t = absurd t
@@ -34,6 +46,27 @@ or-inl false b t = absurd t
 pub or-inr : (a b : Bool) → T b → T (a || b)
 or-inr true b t = tt
 or-inr false b t = t
+
+pub or-right : (b c : Bool) → c ≡ true → b || c ≡ true
+or-right true c h = refl
+or-right false c h = h
+
+-- a test beside one that is known
+pub or-true : (b : Bool) → b || true ≡ true
+or-true true = refl
+or-true false = refl
+
+pub or-none : (b : Bool) → b || false ≡ b
+or-none true = refl
+or-none false = refl
+
+pub and-none : (b : Bool) → b && false ≡ false
+and-none true = refl
+and-none false = refl
+
+pub or-assoc : (a b c : Bool) → a || (b || c) ≡ (a || b) || c
+or-assoc true b c = refl
+or-assoc false b c = refl
 
 pub eq-or : (a b : ℕ) → (a ≡ b) ⊎ (a ≡ b → ⊥)
 eq-or a b = go (eqb a b) refl

@@ -21,7 +21,7 @@ row-base r rs i k =
     let e : 3 * suc i + k ≡ suc (suc (suc (3 * i + k))) = omega arith in
     rw e
 
-pub range-turn : (rs : List Range) (w : List ℕ) (i base n most : ℕ) (b : Bool) → i < length rs → base ≡ getD (flat rs) (3 * i + 0) 0 → n ≡ getD (flat rs) (3 * i + 1) 0 → most ≡ getD (flat rs) (3 * i + 2) 0 → b ≡ every (upTo most) (area (record { base = base; size = n }) w) → inRange (drop i rs) w ≡ b && inRange (drop (i + 1) rs) w
+range-turn : (rs : List Range) (w : List ℕ) (i base n most : ℕ) (b : Bool) → i < length rs → base ≡ getD (flat rs) (3 * i + 0) 0 → n ≡ getD (flat rs) (3 * i + 1) 0 → most ≡ getD (flat rs) (3 * i + 2) 0 → b ≡ every (upTo most) (area (record { base = base; size = n }) w) → inRange (drop i rs) w ≡ b && inRange (drop (i + 1) rs) w
 unfolding inRange
 range-turn [] w i base n most b h e f g t = absurd (omega arith)
 range-turn (r ∷ rs) w zero base n most b h e f g t = rw (t, e, f, g)
@@ -113,10 +113,6 @@ each-at p (q ∷ qs) r e t = go (sameRow r q) refl t (each-at p qs r (both (p q)
     go : (b : Bool) → sameRow r q ≡ b → T (b || listed r qs) → (T (listed r qs) → p r ≡ true) → p r ≡ true
     go true s u ih = rw (same-row r q (rw s tt)) (both (p q) (each p qs) e .0)
     go false s u ih = ih u
-
-each-of : (p : Range → Bool) (rs : List Range) → ((r : Range) → T (listed r rs) → p r ≡ true) → each p rs ≡ true
-each-of p [] f = refl
-each-of p (r ∷ rs) f = rw (f r (or-inl (sameRow r r) (listed r rs) (row-refl r))) (each-of p rs (λ q t. f q (or-inr (sameRow q r) (listed q rs) t)))
 
 -- THE LAYOUT: two areas are the same or share no word
 abbrev rowsApart : Range → Range → Bool

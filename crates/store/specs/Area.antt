@@ -5,6 +5,7 @@ use Prim.Native.Nat.{ℕ, _+_, _≤_, _<_}
 use lib.Dec.{T, leb}
 use lib.ListN.{length, getD, set, take, drop, replicate}
 
+-- a run of words: where it begins and how many there are
 pub record Area : Type 0 where
   pub base : ℕ
   pub size : ℕ
@@ -30,16 +31,18 @@ putRun a i (x ∷ xs) w = putRun a (i + 1) xs (put a i x w)
 unfoldable pub blank : Area → List ℕ → List ℕ
 blank a w = take (a .base) w ++ (replicate (a .size) 0 ++ drop (a .base + a .size) w)
 
--- a row of writes, the first one first
+-- one write: a word at a place of an area
 pub record Write : Type 0 where
   pub to : Area
   pub place : ℕ
   pub word : ℕ
 
+-- several writes, one after the other
 abbrev pub puts : List Write → List ℕ → List ℕ
 puts [] w = w
 puts (x ∷ xs) w = puts xs (put (x .to) (x .place) (x .word) w)
 
+-- word i of an area becomes x
 abbrev pub write : Area → ℕ → ℕ → Write
 write a i x = record { to = a; place = i; word = x }
 
@@ -51,11 +54,12 @@ Fits a w = a .base + a .size ≤ length w
 abbrev pub apart : Area → Area → Bool
 apart a b = leb (a .base + a .size) (b .base) || leb (b .base + b .size) (a .base)
 
--- every write lies in its area, and none of them in a given one
+-- every write lies in its area
 abbrev pub Inside : List Write → Type 0
 Inside [] = Unit {0}
 Inside (x ∷ xs) = (x .place < x .to .size) × Inside xs
 
+-- none of some writes is in an area
 abbrev pub clearOf : Area → List Write → Bool
 clearOf a [] = true
 clearOf a (x ∷ xs) = apart a (x .to) && clearOf a xs
@@ -65,6 +69,7 @@ pub record Range : Type 0 where
   pub within : Area
   pub most : ℕ
 
+-- such a row, written out
 abbrev pub _upto_ : Area → ℕ → Range
 a upto n = record { within = a; most = n }
 

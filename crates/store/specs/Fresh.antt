@@ -17,9 +17,11 @@ whole = record { base = 0; size = words }
 unfoldable pub freshWords : List ℕ → List ℕ
 freshWords w = put mode 0 1 (blank whole w)
 
+-- "refused only with 1 for a short slice"
 unfoldable pub freshOut : List ℕ → Made
 freshOut w = cond (leb words (length w)) Done (Refused 1)
 
+-- the words left: a slice that is too short is kept
 unfoldable pub freshStore : List ℕ → List ℕ
 freshStore w = cond (leb words (length w)) (freshWords w) w
 

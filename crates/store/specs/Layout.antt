@@ -1,5 +1,5 @@
 -- The layout of the words: every area by its name, one behind the other, those that calls write most first.
--- `areas::layout` proves that the source has the same numbers.
+-- `areas::layout` and `areas::unranged` prove that the source has the same numbers.
 use Prim.Native.Nat.{ℕ, _+_, _-_}
 use mathlib.Core.List.{List, [], _∷_}
 use Rattle.store.specs.Area.{Area, Range, _upto_, flat}
@@ -181,16 +181,19 @@ nodeRights = behind nodeLefts nodes
 abbrev pub part : Area → ℕ → ℕ → Area
 part a k n = record { base = a .base + k; size = n }
 
--- the lists of the singles, and behind them those of the unions
+-- where the lists of the singles begin
 abbrev pub singleStarts : Area
 singleStarts = part listStarts 0 versionSets
 
+-- how long they are
 abbrev pub singleLengths : Area
 singleLengths = part listLengths 0 versionSets
 
+-- where the lists of the unions begin
 abbrev pub unionStarts : Area
 unionStarts = part listStarts versionSets unionLists
 
+-- how long they are
 abbrev pub unionLengths : Area
 unionLengths = part listLengths versionSets unionLists
 
@@ -202,22 +205,27 @@ words = nodeRights .base + nodeRights .size
 abbrev pub region : Area → Area → Area
 region a b = record { base = a .base; size = b .base + b .size - a .base }
 
--- what the calls of each module write: the queue with its caches, the mirror, the trail, the settings, the clauses, the tables
+-- what the calls of each module write. The queue: marks and caches
 abbrev pub queueRegion : Area
 queueRegion = region queued cacheCounts
 
+-- the mirror, with its length
 abbrev pub mirrorRegion : Area
 mirrorRegion = region mirror mirrorLength
 
+-- the trail: its counts, the map, the entries
 abbrev pub trailRegion : Area
 trailRegion = region syncFloor trailClauses
 
+-- mode, activities, hot names
 abbrev pub settingsRegion : Area
 settingsRegion = region mode hotNames
 
+-- the clause records with their counts
 abbrev pub clausesRegion : Area
 clausesRegion = region clauseCount clauseIds
 
+-- all that is loaded
 abbrev pub tablesRegion : Area
 tablesRegion = region setNames nodeRights
 
@@ -225,7 +233,7 @@ tablesRegion = region setNames nodeRights
 abbrev pub environmentRegion : Area
 environmentRegion = region mode nodeRights
 
--- every area whose numbers have a range, with the largest number that a word of it may hold
+-- every area whose numbers have a range, with the largest number that a word of it may hold; for an activity that is "would pass 9"
 abbrev pub table : List Range
 table =
     queued upto 1
@@ -270,8 +278,8 @@ table =
     ∷ []
 
 -- the areas whose words may be any u32, but for one number in the map
-abbrev pub openOf : List ℕ
-openOf = map .base ∷ map .size ∷ trailClauses .base ∷ trailClauses .size ∷ clauseIds .base ∷ clauseIds .size ∷ words ∷ []
+abbrev pub unrangedOf : List ℕ
+unrangedOf = map .base ∷ map .size ∷ trailClauses .base ∷ trailClauses .size ∷ clauseIds .base ∷ clauseIds .size ∷ words ∷ []
 
 -- each row's base, size and largest number, as the source has them
 abbrev pub layoutOf : List ℕ

@@ -1,6 +1,8 @@
 pub mod Area
+pub mod Codes
 pub mod Fresh
 pub mod Layout
+pub mod Lent
 pub mod Limits
 pub mod Numbers
 pub mod Ranks

@@ -16,10 +16,11 @@ unfoldable pub every : (ℕ → Bool) → List ℕ → Bool
 every p [] = true
 every p (x ∷ xs) = p x && every p xs
 
--- "every stored count and id, and every other stored number that has a range here, is in that range"
+-- at most so much
 abbrev pub upTo : ℕ → ℕ → Bool
 upTo most x = leb x most
 
+-- "every stored count and id, and every other stored number that has a range here (level, value, sign, mode, kind), is in that range"
 unfoldable pub inRange : List Range → List ℕ → Bool
 inRange [] w = true
 inRange (r ∷ rs) w = every (upTo (r .most)) (area (r .within) w) && inRange rs w
@@ -28,10 +29,11 @@ inRange (r ∷ rs) w = every (upTo (r .most)) (area (r .within) w) && inRange rs
 abbrev pub isCell : ℕ → Bool
 isCell x = not (eqb x mapHole)
 
--- "every start with its length lies in its area", from one place to another; nothing lies anywhere
+-- "every start with its length lies in its area", from one place to another; an empty list lies anywhere
 abbrev pub lies : ℕ → ℕ → ℕ → ℕ → Bool
 lies from to start n = eqb n 0 || (leb from start && leb (start + n) to)
 
+-- each start of a list, with its length of another
 unfoldable pub spans : ℕ → ℕ → List ℕ → List ℕ → Bool
 spans from to [] ns = true
 spans from to (a ∷ starts) [] = true
@@ -41,6 +43,7 @@ spans from to (a ∷ starts) (n ∷ ns) = lies from to a n && spans from to star
 abbrev pub unionsFrom : List ℕ → ℕ
 unionsFrom w = cellRoom - at unionCells 0 w
 
+-- the lists of the singles, of the unions and of the disjunctions
 unfoldable pub spansSound : List ℕ → Bool
 spansSound w =
     leb (at singleCells 0 w + at unionCells 0 w) cellRoom
@@ -53,6 +56,7 @@ unfoldable pub smaller : ℕ → List ℕ → Bool
 smaller k [] = true
 smaller k (x ∷ xs) = leb x k && smaller (suc k) xs
 
+-- left and right children
 unfoldable pub nodesSound : List ℕ → Bool
 nodesSound w = smaller 0 (area nodeLefts w) && smaller 0 (area nodeRights w)
 
@@ -73,10 +77,11 @@ soundShape w =
     && nodesSound w
     && countsSound w
 
--- a row stands in a list of rows: of the layout's rows `tt` shows it
+-- two rows are the same
 abbrev pub sameRow : Range → Range → Bool
 sameRow r q = eqb (r .within .base) (q .within .base) && eqb (r .within .size) (q .within .size) && eqb (r .most) (q .most)
 
+-- a row is one of some: of the layout's rows `tt` shows it
 abbrev pub listed : Range → List Range → Bool
 listed r [] = false
 listed r (q ∷ qs) = sameRow r q || listed r qs
@@ -85,6 +90,7 @@ listed r (q ∷ qs) = sameRow r q || listed r qs
 abbrev pub Ranged : List ℕ → Type 0
 Ranged w = (a : Area) (most : ℕ) → T (listed (a upto most) table) → (i : ℕ) → at a i w ≤ most
 
+-- the ties between starts, lengths and children
 pub record Tabled (w : List ℕ) : Type 0 where
   pub together : at singleCells 0 w + at unionCells 0 w ≤ cellRoom
   pub singles : (t : ℕ) → lies 0 (at singleCells 0 w) (at singleStarts t w) (at singleLengths t w) ≡ true
@@ -93,6 +99,7 @@ pub record Tabled (w : List ℕ) : Type 0 where
   pub lefts : (k : ℕ) → at nodeLefts k w ≤ k
   pub rights : (k : ℕ) → at nodeRights k w ≤ k
 
+-- all of it
 pub record Sound (w : List ℕ) : Type 0 where
   pub long : words ≤ length w
   pub ranges : Ranged w

@@ -1,6 +1,6 @@
-// The areas of the store: where each begins and how many words it has. Nothing above this crate sees a number of these.
+// The areas of the store: where each begins and how many words it has. Code above names an area, never a number.
 ghost use mathlib.Core.Path.{_≡_};
-ghost use Rattle.store.specs.Layout.{layoutOf, openOf};
+ghost use Rattle.store.specs.Layout.{layoutOf, unrangedOf};
 use crate::limits;
 
 // Whether each clause is queued, in position order.
@@ -351,7 +351,7 @@ pub fn layout() -> [usize; 117]
 
 // The other areas, and the number of words.
 pub fn unranged() -> [usize; 7]
-    ensures { λ r. ⌜ r ≡ openOf ⌝ }
+    ensures { λ r. ⌜ r ≡ unrangedOf ⌝ }
 {
     [
         MAP,

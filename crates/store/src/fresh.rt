@@ -10,7 +10,7 @@ use crate::set_blank;
 use crate::write;
 
 // The work of `fresh` on a slice that is long enough.
-pub fn fill(s: &mut [u32])
+fn fill(s: &mut [u32])
     requires { ⌜ words ≤ length (now s) ⌝ }
     ensures { λ _. ⌜ now (s .exit) ≡ freshWords (now (s .entry)) ⌝ }
 {

@@ -1,10 +1,11 @@
-// The words of the store: one lent slice of u32 in named areas. This crate alone knows where an area begins.
+// The words of the store: one lent slice of u32 in named areas.
 ghost use mathlib.Core.Path.{_≡_};
 ghost use Prim.Native.Nat.{_+_, _≤_, _<_};
 ghost use lib.ListN.{length};
 ghost use Rattle.store.specs.Area.{at, put, blank};
 
 pub mod areas;
+pub mod codes;
 pub mod fresh;
 pub mod lent;
 pub mod limits;

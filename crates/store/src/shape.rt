@@ -1,4 +1,5 @@
-// The check of the sound shape. Each loop counts what is wrong and has no early way out, so that it runs on many words at once.
+// The check of the sound shape. A loop over words has no early way out, so that it runs on many words at once.
+ghost use mathlib.Core.Bool.{true};
 ghost use mathlib.Core.Path.{_≡_};
 ghost use Prim.Native.Nat.{_+_, _≤_, _<_};
 ghost use lib.ListN.{length};
@@ -11,8 +12,22 @@ use crate::limits;
 use crate::read;
 use crate::wide;
 
-// Whether no word of an area is above `most`.
-fn within(s: &[u32], base: usize, n: usize, most: u32) -> bool
+// A number that no word of an area is above: all its words, put together by `or`.
+fn ceiling(s: &[u32], base: usize, n: usize) -> u32
+    requires { ⌜ base + n ≤ length (now s) ⌝ }
+    ensures { λ r. ⌜ every (upTo r) (area (record { base = base; size = n }) (now (s .entry))) ≡ true ⌝ }
+{
+    let mut all: u32 = 0;
+    let mut i: usize = 0;
+    while i < n {
+        all = all | s[base + i];
+        i += 1;
+    }
+    all
+}
+
+// Whether no word of an area is above `most`, word by word.
+fn none_above(s: &[u32], base: usize, n: usize, most: u32) -> bool
     requires { ⌜ (base + n ≤ length (now s)) × (n ≤ wordRoom) ⌝ }
     ensures { λ r. ⌜ r ≡ every (upTo most) (area (record { base = base; size = n }) (now (s .entry))) ⌝ }
 {
@@ -25,6 +40,17 @@ fn within(s: &[u32], base: usize, n: usize, most: u32) -> bool
         i += 1;
     }
     bad == 0
+}
+
+// The same. A ceiling that is low enough decides at once, and is cheaper: the words are asked one by one only where it is not.
+fn within(s: &[u32], base: usize, n: usize, most: u32) -> bool
+    requires { ⌜ (base + n ≤ length (now s)) × (n ≤ wordRoom) ⌝ }
+    ensures { λ r. ⌜ r ≡ every (upTo most) (area (record { base = base; size = n }) (now (s .entry))) ⌝ }
+{
+    if ceiling(s, base, n) <= most {
+        return true;
+    }
+    none_above(s, base, n, most)
 }
 
 // Whether every area of the layout is in its range.
@@ -62,21 +88,23 @@ fn cells_sound(s: &[u32]) -> bool
     bad == 0
 }
 
-fn lies_in(from: usize, to: usize, start: u32, n: u32) -> bool
+// Whether n cells from `start` on lie between two places.
+fn lies_in(from: u32, to: u32, start: u32, n: u32) -> bool
     ensures { λ r. ⌜ r ≡ lies from to start n ⌝ }
 {
     if n == 0 {
         return true;
     }
-    let first = wide(start);
-    if from <= first {
-        return first + wide(n) <= to;
+    if from <= start {
+        if start <= to {
+            return n <= to - start;
+        }
     }
     false
 }
 
 // Whether each start of one area lies, with its length of another, between two places.
-fn spans_in(s: &[u32], starts: usize, lengths: usize, n: usize, from: usize, to: usize) -> bool
+fn spans_in(s: &[u32], starts: usize, lengths: usize, n: usize, from: u32, to: u32) -> bool
     requires { ⌜ (starts + n ≤ length (now s)) × (lengths + n ≤ length (now s)) × (n ≤ wordRoom) ⌝ }
     ensures { λ r. ⌜ r ≡ spans from to (area (record { base = starts; size = n }) (now (s .entry))) (area (record { base = lengths; size = n }) (now (s .entry))) ⌝ }
 {
@@ -112,9 +140,10 @@ fn spans_sound(s: &[u32]) -> bool
     requires { ⌜ words ≤ length (now s) ⌝ }
     ensures { λ r. ⌜ r ≡ spansSound (now (s .entry)) ⌝ }
 {
-    let singles = wide(read::single_cells(s));
-    let unions = wide(read::union_cells(s));
-    if limits::CELL_ROOM < singles + unions {
+    let singles = read::single_cells(s);
+    let unions = read::union_cells(s);
+    let room = limits::CELL_ROOM as u32;
+    if limits::CELL_ROOM < wide(singles) + wide(unions) {
         return false;
     }
     if spans_in(
@@ -132,8 +161,8 @@ fn spans_sound(s: &[u32]) -> bool
         areas::UNION_STARTS,
         areas::UNION_LENGTHS,
         limits::UNION_LISTS,
-        limits::CELL_ROOM - unions,
-        limits::CELL_ROOM,
+        room - unions,
+        room,
     ) {} else {
         return false;
     }
@@ -143,7 +172,7 @@ fn spans_sound(s: &[u32]) -> bool
         areas::DISJUNCTION_SIZES,
         limits::DISJUNCTIONS,
         0,
-        limits::MOST_DISJUNCTION_SIZE,
+        limits::MOST_DISJUNCTION_SIZE as u32,
     )
 }
 
