@@ -2,15 +2,15 @@
 -- And the test of the bits is exactly that (`good-is`). 2139095040 is the pattern of the infinity, one more than the last activity; a
 -- pattern has 8388608 = 2 ^ 23 digits below its exponent. Each value is counted in units of 2 ^ -149. Assumes nothing.
 use mathlib.Core.Path.{_≡_, refl, sym, ap, _∙_, subst}
-use mathlib.Core.Logic.{_⊎_, inl, inr}
+use mathlib.Core.Logic.{inl, inr}
 use Prim.Native.Nat.{ℕ, zero, suc, _+_, _-_, _*_, _/_, _%_, _^_, _≤_, _<_}
-use native.Mathlib.Nat.{le-antisymm, lt-irrefl, le-add-right, le-of-suc-le-suc, mod-lt, le-trans, le-of-eq, le-of-lt, lt-of-lt-of-le, lt-of-le-of-lt, not-le-of-lt, lt-of-not-le, eq-or-lt-of-le, mod-eq-of-lt, div-eq-of-lt, mul-one, mul-assoc, mul-le-mul-right, mul-le-mul-left, mul-lt-mul-of-pos-right, le-of-mul-le-mul-right, pow-succ', le-mul-of-pos-right}
+use native.Mathlib.Nat.{le-antisymm, lt-irrefl, le-add-right, le-of-suc-le-suc, mod-lt, le-trans, le-of-eq, le-of-lt, lt-of-lt-of-le, not-le-of-lt, lt-of-not-le, eq-or-lt-of-le, mod-eq-of-lt, mul-one, mul-assoc, mul-le-mul-right, mul-le-mul-left, mul-lt-mul-of-pos-right, le-of-mul-le-mul-right, pow-succ', le-mul-of-pos-right}
 use native.Mathlib.Omega.{arith}
-use mathlib.Core.Bool.{Bool, true, false, not, _&&_, _||_, Bool·beq, cond, true≢false}
-use lib.Dec.{T, leb, ltb, eqb, leb→le, ltb→lt, lt→ltb, nltb→le, eqb→eq, le→leb, not-T, T-not, lit<}
+use mathlib.Core.Bool.{Bool, true, false, not, _&&_, cond, true≢false}
+use lib.Dec.{T, leb, ltb, eqb, leb→le, ltb→lt, lt→ltb, eqb→eq, le→leb, not-T, T-not, lit<}
 use lib.Pow.{pow-pos, pow-mono}
 use lib.Ieee.{Float, nan, inf, fin, binary32, up, down, odd, ofFields, ofBits, isNan, nanBits, toBits, fits, lt, eq, ne}
-use lib.Ieee.Bits.{is-true, is-false, cond-no, nanBits-is, toBits-ofBits, ofBits-toBits, toBits-lt}
+use lib.Ieee.Bits.{is-false, cond-no, nanBits-is, toBits-ofBits, ofBits-toBits, toBits-lt}
 use lib.Ieee.Fits.{down-pos, and-i, and-l, and-r, eq→eqb}
 use lib.Ieee.Exact.{HasValue, odd-sign}
 use lib.Ieee.Order.{transfer}
@@ -40,7 +40,7 @@ module _ (c : ℕ) (C : 0 < c) where
       (λ t. lt→ltb a b (lt-of-not-le (λ (g : b ≤ a). not-le-of-lt (ltb→lt (x * dd) (y * de) t) (up-le y x dd de b a q p g))))
       (λ t. lt→ltb (x * dd) (y * de) (lt-of-not-le (λ (g : y * de ≤ x * dd). not-le-of-lt (ltb→lt a b t) (down-le y x dd de b a E D q p g))))
 
-  pub lt-of-values : (x y : Float) (a b : ℕ) → HasValue x false a c → HasValue y false b c → lt x y ≡ ltb a b
+  lt-of-values : (x y : Float) (a b : ℕ) → HasValue x false a c → HasValue y false b c → lt x y ≡ ltb a b
   unfolding lt
   lt-of-values nan y a b p q = absurd p
   lt-of-values (inf s) y a b p q = absurd p
@@ -60,7 +60,7 @@ module _ (c : ℕ) (C : 0 < c) where
       let e : a ≡ b = eqb→eq a b t in
       and-i (eqb (x * dd) (y * de)) true (eq→eqb (le-antisymm (up-le x y de dd a b p q (le-of-eq e)) (up-le y x dd de b a q p (le-of-eq (sym e))))) tt)
 
-  pub eq-of-values : (x y : Float) (a b : ℕ) → HasValue x false a c → HasValue y false b c → eq x y ≡ eqb a b
+  eq-of-values : (x y : Float) (a b : ℕ) → HasValue x false a c → HasValue y false b c → eq x y ≡ eqb a b
   unfolding eq
   eq-of-values nan y a b p q = absurd p
   eq-of-values (inf s) y a b p q = absurd p
@@ -83,11 +83,11 @@ below-top b h =
     ∙ ap (λ (x : ℕ). ofFields binary32 false (x / 8388608) (b % 8388608)) (mod-eq-of-lt s)
 
 -- an exponent's field of 0 counts as one of 1, and has no leading digit
-abbrev pub val : ℕ → ℕ → ℕ
+abbrev val : ℕ → ℕ → ℕ
 val zero t = t
 val (suc x) t = (8388608 + t) * 2 ^ x
 
-abbrev pub units : ℕ → ℕ
+abbrev units : ℕ → ℕ
 units b = val (b / 8388608) (b % 8388608)
 
 differ : (x : ℕ) → suc x < 255 → suc x ≡ 255 → ⊥
@@ -101,7 +101,7 @@ fields-is (suc x) t h =
     (sym (cond-no (eqb (suc x) 255) (cond (eqb t 0) (inf false) nan) (odd 24 false (8388608 + t) x 149) (not-T (eqb (suc x) 255) (λ u. differ x h (eqb→eq (suc x) 255 u)))))
     (odd-sign 24 false (8388608 + t) x 149)
 
-pub value : (b : ℕ) → b < 2139095040 → HasValue (ofBits binary32 b) false (units b) (2 ^ 149)
+value : (b : ℕ) → b < 2139095040 → HasValue (ofBits binary32 b) false (units b) (2 ^ 149)
 value b h = subst (λ (v : Float). HasValue v false (units b) (2 ^ 149)) (sym (below-top b h)) (fields-is (b / 8388608) (b % 8388608) (omega arith))
 
 -- a larger pattern stands for a larger number
@@ -123,7 +123,7 @@ fields-le a b h = omega arith
 digits-lt : (a b : ℕ) → a < b → a / 8388608 ≡ b / 8388608 → a % 8388608 < b % 8388608
 digits-lt a b h e = omega arith
 
-pub units-lt : (a b : ℕ) → a < b → units a < units b
+units-lt : (a b : ℕ) → a < b → units a < units b
 units-lt a b h =
     elim (eq-or-lt-of-le (fields-le a b h)) [
       | inl e ↦ subst (λ (x : ℕ). units a < val x (b % 8388608)) e (val-digits (a / 8388608) (a % 8388608) (b % 8388608) (digits-lt a b h e))
@@ -164,7 +164,7 @@ has-no-nan nan a c p = absurd p
 has-no-nan (inf s) a c p = absurd p
 has-no-nan (fin s m e) a c p = tt
 
-pub no-nan : (a : ℕ) → a < 2139095040 → T (not (isNan (ofBits binary32 a)))
+no-nan : (a : ℕ) → a < 2139095040 → T (not (isNan (ofBits binary32 a)))
 no-nan a h = has-no-nan (ofBits binary32 a) (units a) (2 ^ 149) (value a h)
 
 pub no-nan-bits : (a : ℕ) → a < 2139095040 → T (not (nanBits binary32 a))
@@ -175,7 +175,7 @@ pub back-bits : (a : ℕ) → a < 2139095040 → toBits binary32 (ofBits binary3
 back-bits a h = toBits-ofBits binary32 a (omega arith) (no-nan a h)
 
 -- what the range test says: the value is finite with the sign clear (`good`)
-pub good-odd : (d : ℕ) (s : Bool) (q k l : ℕ) → good (odd d s q k l) ≡ not s
+good-odd : (d : ℕ) (s : Bool) (q k l : ℕ) → good (odd d s q k l) ≡ not s
 unfolding odd good
 good-odd d true zero k l = refl
 good-odd d false zero k l = refl

@@ -5,10 +5,7 @@ use Prim.Native.Nat.{ℕ}
 use Rattle.settings.specs.Settings.{activityOn, activityOnStore, modeIn, modeInStore}
 use Rattle.store.specs.Area.{put}
 use Rattle.store.specs.Layout.{mode, activities}
-use Rattle.settings.specs.declared.Tuned.{Tuned}
 use Rattle.settings.specs.declared.Tuned.the-variants.{Done, Refused}
-use Rattle.settings.specs.declared.activity.Admitted.{Admitted}
-use Rattle.settings.specs.declared.activity.Admitted.the-variants.{Bits, Bad}
 
 module _ (w : List ℕ) (name bits : ℕ) where
   pub activity-done : activityOn w name bits ≡ Done → activityOnStore w name bits ≡ put activities name bits w

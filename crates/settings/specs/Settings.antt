@@ -19,14 +19,15 @@ use Rattle.settings.specs.declared.Mode.the-variants.{Is as ModeIs, Refu
 use Rattle.settings.specs.declared.Name.{Name}
 use Rattle.settings.specs.declared.Name.the-variants.{Is as NameIs, Refused as NameRefused}
 
--- "hot is for good", and "marking a hot name hot changes nothing"
+-- making a name hot: test 2 alone
 unfoldable pub hotIn : List ℕ → ℕ → Tuned
 hotIn w name = cond (leb names name) (Refused 2) Done
 
+-- "hot is for good": no call but this and making a fresh store writes the mark
 unfoldable pub hotInStore : List ℕ → ℕ → List ℕ
 hotInStore w name = cond (leb names name) w (put hotNames name 1 w)
 
--- the activity of name n once `name` had `bits`; no name has the number 128
+-- the activity of name n once `name` has `bits`; the number of names names none
 unfoldable pub activityWith : List ℕ → ℕ → ℕ → ℕ → ℕ
 activityWith w name bits n = cond (eqb n name) bits (at activities n w)
 
@@ -38,25 +39,30 @@ quiet w name bits n = cond (eqb (at hotNames n w) 0) (eqb (activityWith w name b
 unfoldable pub activityOn : List ℕ → ℕ → ℕ → Tuned
 activityOn w name bits = cond (eqb (at mode 0 w) 1) (cond (allFrom (quiet w name bits) 0 names) Done (Refused 10)) Done
 
+-- "Each refusal but 8 changes no word of the store"
 abbrev pub activityLeft : Tuned → List ℕ → ℕ → ℕ → List ℕ
 activityLeft Done w name bits = put activities name bits w
 activityLeft (Refused n) w name bits = w
 
+-- the words with an activity in range given to a name in range
 unfoldable pub activityOnStore : List ℕ → ℕ → ℕ → List ℕ
 activityOnStore w name bits = activityLeft (activityOn w name bits) w name bits
 
--- tests 2, 9, 10
+-- what was admitted is judged by 10, the rest is 9
 abbrev pub activityFor : Admitted → List ℕ → ℕ → Tuned
 activityFor (Bits bits) w name = activityOn w name bits
 activityFor Bad w name = Refused 9
 
+-- the words that it leaves
 abbrev pub activityForStore : Admitted → List ℕ → ℕ → List ℕ
 activityForStore (Bits bits) w name = activityOnStore w name bits
 activityForStore Bad w name = w
 
+-- a name given an activity, on a store of sound shape: test 2 first
 unfoldable pub activityIn : List ℕ → ℕ → Float → Tuned
 activityIn w name x = cond (leb names name) (Refused 2) (activityFor (admitted x) w name)
 
+-- the words that it leaves
 unfoldable pub activityInStore : List ℕ → ℕ → Float → List ℕ
 activityInStore w name x = cond (leb names name) w (activityForStore (admitted x) w name)
 
@@ -64,59 +70,72 @@ activityInStore w name x = cond (leb names name) w (activityForStore (admitted x
 unfoldable pub modeIn : List ℕ → ℕ → Tuned
 modeIn w m = cond (leb 2 m) (Refused 2) (cond (eqb m 1) (cond (allFrom (quiet w names 0) 0 names) Done (Refused 10)) Done)
 
+-- "Each refusal but 8 changes no word of the store"
 abbrev pub modeLeft : Tuned → List ℕ → ℕ → List ℕ
 modeLeft Done w m = put mode 0 m w
 modeLeft (Refused n) w m = w
 
+-- the words that setting the mode leaves, on a store of sound shape
 unfoldable pub modeInStore : List ℕ → ℕ → List ℕ
 modeInStore w m = modeLeft (modeIn w m) w m
 
+-- what a name is, on a store of sound shape: test 2 first
 unfoldable pub nameIn : List ℕ → ℕ → Name
 nameIn w name = cond (leb names name) (NameRefused 2) (NameIs (at activities name w) (at hotNames name w))
 
--- on any words
+-- making a name hot, on any words
 unfoldable pub hotOut : List ℕ → ℕ → Tuned
 hotOut w name = cond (soundShape w) (hotIn w name) (Refused 1)
 
+-- the words that it leaves
 unfoldable pub hotStore : List ℕ → ℕ → List ℕ
 hotStore w name = cond (soundShape w) (hotInStore w name) w
 
+-- giving a name an activity, on any words
 unfoldable pub activityOut : List ℕ → ℕ → Float → Tuned
 activityOut w name x = cond (soundShape w) (activityIn w name x) (Refused 1)
 
+-- the words that it leaves
 unfoldable pub activityStore : List ℕ → ℕ → Float → List ℕ
 activityStore w name x = cond (soundShape w) (activityInStore w name x) w
 
+-- setting the mode, on any words
 unfoldable pub modeOut : List ℕ → ℕ → Tuned
 modeOut w m = cond (soundShape w) (modeIn w m) (Refused 1)
 
+-- the words that it leaves
 unfoldable pub modeStore : List ℕ → ℕ → List ℕ
 modeStore w m = cond (soundShape w) (modeInStore w m) w
 
+-- the mode, on any words
 unfoldable pub modeNow : List ℕ → Mode
 modeNow w = cond (soundShape w) (ModeIs (at mode 0 w)) (ModeRefused 1)
 
+-- a name's activity and whether it is hot, on any words
 unfoldable pub nameNow : List ℕ → ℕ → Name
 nameNow w name = cond (soundShape w) (nameIn w name) (NameRefused 1)
 
--- the answers' numbers and values in document 01
+-- the answer's number in document 01, of a call that changes a setting
 abbrev pub tunedNumber : Tuned → ℕ
 tunedNumber Done = 0
 tunedNumber (Refused n) = n
 
+-- the number of the mode's answer
 abbrev pub modeNumber : Mode → ℕ
 modeNumber (ModeIs m) = 0
 modeNumber (ModeRefused n) = n
 
+-- its values: 1 standard, 0 not
 abbrev pub modeValues : Mode → List ℕ
 modeValues (ModeIs m) = m ∷ []
 modeValues (ModeRefused n) = []
 
+-- the number of a name's answer
 abbrev pub nameNumber : Name → ℕ
 nameNumber (NameIs activity hot) = 0
 nameNumber (NameRefused n) = n
 
--- the activity's bits, and 1 if hot
+-- its values: the activity's bits, and 1 if hot
 abbrev pub nameValues : Name → List ℕ
 nameValues (NameIs activity hot) = activity ∷ hot ∷ []
 nameValues (NameRefused n) = []

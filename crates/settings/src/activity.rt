@@ -36,7 +36,7 @@ pub fn higher(a: u32, b: u32) -> bool
 }
 
 // Whether two activities are the same number.
-pub fn level(a: u32, b: u32) -> bool
+pub fn same(a: u32, b: u32) -> bool
     requires { ⌜ (a ≤ lastActivity) × (b ≤ lastActivity) ⌝ }
     ensures { λ r. ⌜ (r ≡ eq (ofBits binary32 a) (ofBits binary32 b)) × (r ≡ eqb a b) ⌝ }
 {

@@ -1,4 +1,4 @@
-// The settings of a store of sound shape. The layers above, which have tested the shape, call these.
+// The settings of a store of sound shape. The crate's public calls test the shape and then call these.
 ghost use mathlib.Core.Path.{_≡_};
 ghost use Prim.Native.Nat.{_≤_, _<_};
 ghost use lib.ListN.{length};
@@ -78,6 +78,7 @@ fn activity_case(s: &[u32], name: u32, bits: u32) -> Tuned
     Tuned::Done
 }
 
+// Gives a name in range an activity in range, unless 10 refuses it.
 fn store_activity(s: &mut [u32], name: u32, bits: u32) -> Tuned
     requires { ⌜ (words ≤ length (now s)) × (name < names) ⌝ }
     ensures { λ r. ⌜ (r ≡ activityOn (now (s .entry)) name bits) × (now (s .exit) ≡ activityOnStore (now (s .entry)) name bits) ⌝ }

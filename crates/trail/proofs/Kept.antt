@@ -5,42 +5,33 @@ use mathlib.Core.Logic.{⊎-elim, _≢_}
 use mathlib.Core.Path.{_≡_, refl, _∙_}
 use Prim.Native.Nat.{ℕ, zero, suc, _+_, _-_, _≤_, _<_, min}
 use native.Mathlib.Omega.{arith}
-use borrow.Author.Tests.{ltb-true, ltb-false}
+use borrow.Author.Tests.{ltb-true}
 use lib.Dec.{T, leb, ltb, eqb}
 use lib.ListN.{length, getD, replicate, length-replicate, getD-replicate, List·getD-eq-default}
 use Rattle.store.proofs.AreaLaws.{length-put, at-put-same, at-put-else, area-kept, at-kept, length-blank, area-blank, area-blank-kept, length-puts, area-puts, at-puts, at-puts-here, apart-inside, clear-outside}
 use Rattle.store.proofs.Choice.{cond-either, eq-or, lt-or}
 use Rattle.store.proofs.Soundness.{sound-shape, ranged-put, ranged-beside, ranged-blank, tabled-same}
-use Rattle.store.specs.Area.{Area, area, at, put, blank, Write, write, apart, Inside, clearOf}
+use Rattle.store.specs.Area.{Area, area, at, put, blank, write, apart, Inside, clearOf}
 use Rattle.store.specs.Layout.{mirrorLength, syncFloor, propagated, trailLength, map, trailVariables, trailValues, trailClauses, words, trailRegion, tablesRegion}
-use Rattle.store.specs.Limits.{variables, trailRoom, lastLevel, mapHole, lastVariable}
+use Rattle.store.specs.Limits.{variables, trailRoom, lastLevel, lastWord, mapHole, lastVariable}
 use Rattle.store.specs.Shape.{Sound}
 use Rattle.trail.proofs.Assigning.{Fitting, new-fits}
 use Rattle.trail.proofs.Popping.{entered, pop-inside, popped-count, popped-kept}
 use Rattle.trail.specs.Assign.{assignIn, pushWrites, pushed, assignLeft, assignInStore, assignOut, assignStore}
 use Rattle.trail.specs.Cell.{cellOf}
-use Rattle.trail.specs.Entries.{entries, lastLevelOf, Entered}
+use Rattle.trail.specs.Entries.{entries, levelOfLast, Entered}
 use Rattle.trail.specs.Next.{nextIn, nextInStore, nextOut, nextStore}
-use Rattle.trail.specs.UndoLast.{least, popWrites, popped, undoLastIn, undoLastInStore, undoLastOut, undoLastStore}
-use Rattle.trail.specs.UndoUntil.{poppedTo, cleared, noStop, undoUntilIn, undoUntilInStore, undoUntilOut, undoUntilStore}
+use Rattle.trail.specs.UndoLast.{popWrites, popped, undoLastIn, undoLastInStore, undoLastOut, undoLastStore}
+use Rattle.trail.specs.UndoUntil.{poppedTo, clearWrites, cleared, noStop, undoUntilIn, undoUntilInStore, undoUntilOut, undoUntilStore}
 use Rattle.trail.specs.declared.Assigned.{Assigned}
 use Rattle.trail.specs.declared.Assigned.the-variants.{New, Already, Refused}
-
--- the smaller of two numbers
-pub least-min : (a b : ℕ) → least a b ≡ min b a
-unfolding least
-least-min a b = go (ltb a b) refl
-  where
-    go : (t : Bool) → ltb a b ≡ t → cond t a b ≡ min b a
-    go true e = omega (arith, ltb-true a b e)
-    go false e = omega (arith, ltb-false a b e)
 
 -- a cell that is written is never the one number without an opposite
 cell-sound : (value level : ℕ) → 0 < level → level ≤ lastLevel → cellOf value level ≢ mapHole
 unfolding cellOf
 cell-sound value level a b = go (eqb value 1)
   where
-    go : (t : Bool) → cond t level (4294967296 - level) ≢ mapHole
+    go : (t : Bool) → cond t level (lastWord + 1 - level) ≢ mapHole
     go true = omega arith
     go false = omega arith
 
@@ -108,13 +99,13 @@ module _ (w : List ℕ) (h : Sound w) where
   popped-index =
       at-puts-here propagated 0 (entries w - 1)
       (write map (at trailVariables (entries w - 1) w) 0 ∷ write trailLength 0 (entries w - 1) ∷ [])
-      (write syncFloor 0 (least (entries w - 1) (at syncFloor 0 w)) ∷ [])
+      (write syncFloor 0 (min (at syncFloor 0 w) (entries w - 1)) ∷ [])
       w (omega (arith, h .long)) (omega arith) tt (omega arith, tt)
 
-  pub popped-floor : at syncFloor 0 (popped w) ≡ least (entries w - 1) (at syncFloor 0 w)
+  pub popped-floor : at syncFloor 0 (popped w) ≡ min (at syncFloor 0 w) (entries w - 1)
   unfolding popped
   popped-floor =
-      at-puts-here syncFloor 0 (least (entries w - 1) (at syncFloor 0 w))
+      at-puts-here syncFloor 0 (min (at syncFloor 0 w) (entries w - 1))
       (write map (at trailVariables (entries w - 1) w) 0 ∷ write trailLength 0 (entries w - 1) ∷ write propagated 0 (entries w - 1) ∷ [])
       [] w (omega (arith, h .long)) (omega arith) tt tt
 
@@ -123,9 +114,8 @@ module _ (w : List ℕ) (h : Sound w) where
   popped-sound =
       let n = entries w - 1 in
       let v = at trailVariables n w in
-      let l = least n (at syncFloor 0 w) in
+      let l = min (at syncFloor 0 w) n in
       let few = e .few in
-      let smaller = least-min n (at syncFloor 0 w) in
       let a = put map v 0 w in
       let b = put trailLength 0 n a in
       let c = put propagated 0 n b in
@@ -134,27 +124,31 @@ module _ (w : List ℕ) (h : Sound w) where
       let rc = ranged-put propagated trailRoom 0 n b tt (omega arith) (omega arith) rb in
       record {
         long = rw (length-puts (popWrites w) w) (h .long);
-        ranges = ranged-put syncFloor trailRoom 0 l c tt (omega arith) (omega (arith, smaller)) rc;
+        ranges = ranged-put syncFloor trailRoom 0 l c tt (omega arith) (omega arith) rc;
         cells = λ u. rw (at-puts map (write trailLength 0 n ∷ write propagated 0 n ∷ write syncFloor 0 l ∷ []) a u tt (omega arith, (omega arith, (omega arith, tt)))) (map-sound w v 0 (h .long) (e .named n) (omega arith) (h .cells) u);
         tables = tabled-same (popped w) w (popped-outside tablesRegion tt) (h .tables);
-        floor-trail = rw (popped-floor, popped-count w e) (omega (arith, smaller));
-        floor-mirror = rw (popped-floor, popped-kept w e mirrorLength 0 tt) (omega (arith, smaller, h .floor-mirror));
+        floor-trail = rw (popped-floor, popped-count w e) (omega arith);
+        floor-mirror = rw (popped-floor, popped-kept w e mirrorLength 0 tt) (omega (arith, h .floor-mirror));
         index = rw (popped-index, popped-count w e) (omega arith);
       }
 
-pub poppedTo-sound : (level n : ℕ) (w : List ℕ) → Sound w → Sound (poppedTo level n w)
+popped-to-sound : (level n : ℕ) (w : List ℕ) → Sound w → Sound (poppedTo level n w)
 unfolding poppedTo
-poppedTo-sound level zero w h = h
-poppedTo-sound level (suc n) w h =
-    let rest = poppedTo-sound level n (popped w) (popped-sound w h) in
-    cond-either Sound (leb (lastLevelOf w) level) w (poppedTo level n (popped w)) (λ e. h) (λ e. rest)
+popped-to-sound level zero w h = h
+popped-to-sound level (suc n) w h =
+    let rest = popped-to-sound level n (popped w) (popped-sound w h) in
+    cond-either Sound (leb (levelOfLast w) level) w (poppedTo level n (popped w)) (λ e. h) (λ e. rest)
+
+popped-to-outside : (level n : ℕ) (w : List ℕ) → Sound w → (a : Area) → T (apart a trailRegion) → area a (poppedTo level n w) ≡ area a w
+unfolding poppedTo
+popped-to-outside level zero w h a t = refl
+popped-to-outside level (suc n) w h a t =
+    let rest = popped-to-outside level n (popped w) (popped-sound w h) a t ∙ popped-outside w h a t in
+    cond-either (λ s. area a s ≡ area a w) (leb (levelOfLast w) level) w (poppedTo level n (popped w)) (λ e. refl) (λ e. rest)
 
 module _ (w : List ℕ) (h : Sound w) where
-  clearWrites : List Write
-  clearWrites = write trailLength 0 0 ∷ write propagated 0 0 ∷ write syncFloor 0 0 ∷ []
-
   pub cleared-outside : (a : Area) → T (apart a trailRegion) → area a (cleared w) ≡ area a w
-  unfolding cleared clearWrites
+  unfolding cleared
   cleared-outside a t =
       area-puts a clearWrites (blank map w) (clear-outside a trailRegion clearWrites t tt) (omega arith, (omega arith, (omega arith, tt)))
       ∙ area-blank-kept a map w (apart-inside a map trailRegion t tt) (omega (arith, h .long))
@@ -175,7 +169,7 @@ module _ (w : List ℕ) (h : Sound w) where
   cleared-index = at-puts-here propagated 0 0 (write trailLength 0 0 ∷ []) (write syncFloor 0 0 ∷ []) (blank map w) (omega (arith, long-blank)) (omega arith) tt (omega arith, tt)
 
   pub cleared-map : (v : ℕ) → at map v (cleared w) ≡ 0
-  unfolding cleared clearWrites at
+  unfolding cleared at
   cleared-map v = at-puts map clearWrites (blank map w) v tt (omega arith, (omega arith, (omega arith, tt))) ∙ rw (area-blank map w (omega (arith, h .long))) (zeros v)
     where
       zeros : (v : ℕ) → _≡_ {A = ℕ} (getD (replicate variables 0) v 0) 0
@@ -193,7 +187,7 @@ module _ (w : List ℕ) (h : Sound w) where
       let rl = ranged-put trailLength trailRoom 0 0 b tt (omega arith) (omega arith) rb in
       let rp = ranged-put propagated trailRoom 0 0 (put trailLength 0 0 b) tt (omega arith) (omega arith) rl in
       record {
-        long = rw (length-puts (write trailLength 0 0 ∷ write propagated 0 0 ∷ write syncFloor 0 0 ∷ []) b) long-blank;
+        long = rw (length-puts clearWrites b) long-blank;
         ranges = ranged-put syncFloor trailRoom 0 0 (put propagated 0 0 (put trailLength 0 0 b)) tt (omega arith) (omega arith) rp;
         cells = λ v. rw (cleared-map v) (omega arith);
         tables = tabled-same (cleared w) w (cleared-outside tablesRegion tt) (h .tables);
@@ -236,11 +230,40 @@ module _ (w : List ℕ) (h : Sound w) where
   undo-until-sound level =
       cond-either Sound (ltb lastLevel level) w _ (λ e. h)
       (λ e. cond-either Sound (eqb level 0) (cleared w) _ (λ f. cleared-sound w h)
-      (λ f. cond-either Sound (noStop w level) w (poppedTo level (entries w) w) (λ g. h) (λ g. poppedTo-sound level (entries w) w h)))
+      (λ f. cond-either Sound (noStop w level) w (poppedTo level (entries w) w) (λ g. h) (λ g. popped-to-sound level (entries w) w h)))
 
   pub next-sound : Sound (nextInStore w)
   unfolding nextInStore
   next-sound = cond-either Sound (ltb (at propagated 0 w) (entries w)) _ w (λ e. moved-sound w h (ltb-true _ _ e)) (λ e. h)
+
+  pub assign-outside : (variable value level clause : ℕ) (a : Area) → T (apart a trailRegion) → area a (assignInStore w variable value level clause) ≡ area a w
+  unfolding assignInStore
+  assign-outside variable value level clause a t = go (assignIn w variable value level) refl
+    where
+      go : (r : Assigned) → assignIn w variable value level ≡ r → area a (assignLeft r w variable value level clause) ≡ area a w
+      go New e = pushed-outside w variable value level clause (new-fits w variable value level e) a t
+      go Already e = refl
+      go (Refused n) e = refl
+
+  pub undo-last-outside : (a : Area) → T (apart a trailRegion) → area a (undoLastInStore w) ≡ area a w
+  unfolding undoLastInStore
+  undo-last-outside a t = cond-either (λ s. area a s ≡ area a w) (ltb (entries w) 2) w (popped w) (λ e. refl) (λ e. popped-outside w h a t)
+
+  pub undo-until-outside : (level : ℕ) (a : Area) → T (apart a trailRegion) → area a (undoUntilInStore w level) ≡ area a w
+  unfolding undoUntilInStore
+  undo-until-outside level a t =
+      cond-either same (ltb lastLevel level) w _ (λ e. refl)
+      (λ e. cond-either same (eqb level 0) (cleared w) _ (λ f. cleared-outside w h a t)
+      (λ f. cond-either same (noStop w level) w (poppedTo level (entries w) w) (λ g. refl) (λ g. popped-to-outside level (entries w) w h a t)))
+    where
+      same : List ℕ → Type 0
+      same s = area a s ≡ area a w
+
+  pub next-outside : (a : Area) → T (apart a trailRegion) → area a (nextInStore w) ≡ area a w
+  unfolding nextInStore
+  next-outside a t =
+      cond-either (λ s. area a s ≡ area a w) (ltb (at propagated 0 w) (entries w)) _ w
+      (λ e. area-kept a propagated 0 (at propagated 0 w + 1) w (apart-inside a propagated trailRegion t tt) (omega arith)) (λ e. refl)
 
 -- on a sound store a public call is its inner one
 module _ (w : List ℕ) (h : Sound w) where

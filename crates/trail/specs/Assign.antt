@@ -36,6 +36,7 @@ pushWrites w variable value level clause =
     ∷ write trailLength 0 (entries w + 1)
     ∷ []
 
+-- "Assigning an undecided variable appends it"
 unfoldable pub pushed : List ℕ → ℕ → ℕ → ℕ → ℕ → List ℕ
 pushed w variable value level clause = puts (pushWrites w variable value level clause) w
 
@@ -45,6 +46,7 @@ assignLeft New w variable value level clause = pushed w variable value level cla
 assignLeft Already w variable value level clause = w
 assignLeft (Refused n) w variable value level clause = w
 
+-- the words that assigning leaves, on a store of sound shape
 unfoldable pub assignInStore : List ℕ → ℕ → ℕ → ℕ → ℕ → List ℕ
 assignInStore w variable value level clause = assignLeft (assignIn w variable value level) w variable value level clause
 
@@ -52,15 +54,17 @@ assignInStore w variable value level clause = assignLeft (assignIn w variable va
 unfoldable pub assignOut : List ℕ → ℕ → ℕ → ℕ → Assigned
 assignOut w variable value level = cond (soundShape w) (assignIn w variable value level) (Refused 1)
 
+-- "Each refusal but 8 changes no word of the store"
 unfoldable pub assignStore : List ℕ → ℕ → ℕ → ℕ → ℕ → List ℕ
 assignStore w variable value level clause = cond (soundShape w) (assignInStore w variable value level clause) w
 
--- the answer's number and values in document 01: 1 for new, 0 for already
+-- the answer's number in document 01
 abbrev pub assignedNumber : Assigned → ℕ
 assignedNumber New = 0
 assignedNumber Already = 0
 assignedNumber (Refused n) = n
 
+-- its values: 1 for new, 0 for already
 abbrev pub assignedValues : Assigned → List ℕ
 assignedValues New = 1 ∷ []
 assignedValues Already = 0 ∷ []

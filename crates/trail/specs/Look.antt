@@ -13,7 +13,7 @@ use Rattle.trail.specs.Entries.{entries, entryOf}
 use Rattle.trail.specs.declared.Cause.{Cause}
 use Rattle.trail.specs.declared.Cause.the-variants.{Clause, Nothing, Refused as CauseRefused}
 use Rattle.trail.specs.declared.Valued.{Valued}
-use Rattle.trail.specs.declared.Valued.the-variants.{Decided, Open, Refused as ValuedRefused}
+use Rattle.trail.specs.declared.Valued.the-variants.{Decided, Undecided, Refused as ValuedRefused}
 use Rattle.trail.specs.declared.Length.{Length}
 use Rattle.trail.specs.declared.Length.the-variants.{Entries, Refused as LengthRefused}
 
@@ -21,56 +21,66 @@ use Rattle.trail.specs.declared.Length.the-variants.{Entries, Refused as
 abbrev pub firstEntry : List ℕ → ℕ → ℕ
 firstEntry w variable = firstFrom (entryOf w variable) 0 (entries w)
 
+-- the clause of a variable on a store of sound shape: test 2 first
 unfoldable pub clauseIn : List ℕ → ℕ → Cause
 clauseIn w variable =
     cond (leb variables variable) (CauseRefused 2)
     (cond (ltb (firstEntry w variable) (entries w)) (Clause (at trailClauses (firstEntry w variable) w)) Nothing)
 
+-- on any words
 unfoldable pub clauseOut : List ℕ → ℕ → Cause
 clauseOut w variable = cond (soundShape w) (clauseIn w variable) (CauseRefused 1)
 
 -- the value and the level that the cell says
 abbrev pub valued : ℕ → Valued
-valued x = cond (eqb x 0) Open (Decided (cellSide x) (cellLevel x))
+valued x = cond (eqb x 0) Undecided (Decided (cellSide x) (cellLevel x))
 
+-- the value of a variable on a store of sound shape: test 2 first
 unfoldable pub valueIn : List ℕ → ℕ → Valued
 valueIn w variable = cond (leb variables variable) (ValuedRefused 2) (valued (at map variable w))
 
+-- on any words
 unfoldable pub valueOut : List ℕ → ℕ → Valued
 valueOut w variable = cond (soundShape w) (valueIn w variable) (ValuedRefused 1)
 
+-- how many entries there are, on a store of sound shape
 abbrev pub lengthIn : List ℕ → Length
 lengthIn w = Entries (entries w)
 
+-- on any words
 unfoldable pub lengthOut : List ℕ → Length
 lengthOut w = cond (soundShape w) (lengthIn w) (LengthRefused 1)
 
--- the answers' numbers and values in document 01
+-- the clause's number in document 01
 abbrev pub causeNumber : Cause → ℕ
 causeNumber (Clause c) = 0
 causeNumber Nothing = 0
 causeNumber (CauseRefused n) = n
 
+-- its values: whether there is a clause, and the clause
 abbrev pub causeValues : Cause → List ℕ
 causeValues (Clause c) = 1 ∷ c ∷ []
 causeValues Nothing = 0 ∷ []
 causeValues (CauseRefused n) = []
 
+-- the number of a variable's value in document 01
 abbrev pub valuedNumber : Valued → ℕ
 valuedNumber (Decided x level) = 0
-valuedNumber Open = 0
+valuedNumber Undecided = 0
 valuedNumber (ValuedRefused n) = n
 
--- 0 false, 1 true, 2 undecided, and the level, 0 if undecided
+-- its values: 0 false, 1 true, 2 undecided, and the level, 0 if undecided
 abbrev pub valuedValues : Valued → List ℕ
 valuedValues (Decided x level) = x ∷ level ∷ []
-valuedValues Open = 2 ∷ 0 ∷ []
+valuedValues Undecided = 2 ∷ 0 ∷ []
 valuedValues (ValuedRefused n) = []
 
+-- the number of the trail's length in document 01
 abbrev pub lengthNumber : Length → ℕ
 lengthNumber (Entries n) = 0
 lengthNumber (LengthRefused n) = n
 
+-- its values: how many entries there are
 abbrev pub lengthValues : Length → List ℕ
 lengthValues (Entries n) = n ∷ []
 lengthValues (LengthRefused n) = []

@@ -14,6 +14,7 @@ use Rattle.trail.specs.declared.Next.the-variants.{Entry, Nothing, Refus
 unfoldable pub nextIn : List ℕ → Next
 nextIn w = cond (ltb (at propagated 0 w) (entries w)) (Entry (decisionAt w (at propagated 0 w))) Nothing
 
+-- the index "then moves on by one"
 unfoldable pub nextInStore : List ℕ → List ℕ
 nextInStore w = cond (ltb (at propagated 0 w) (entries w)) (put propagated 0 (at propagated 0 w + 1) w) w
 
@@ -21,15 +22,17 @@ nextInStore w = cond (ltb (at propagated 0 w) (entries w)) (put propagated 0 (at
 unfoldable pub nextOut : List ℕ → Next
 nextOut w = cond (soundShape w) (nextIn w) (Refused 1)
 
+-- "Each refusal but 8 changes no word of the store"
 unfoldable pub nextStore : List ℕ → List ℕ
 nextStore w = cond (soundShape w) (nextInStore w) w
 
--- the answer's number and values in document 01: whether there is one, and the entry
+-- the answer's number in document 01
 abbrev pub nextNumber : Next → ℕ
 nextNumber (Entry d) = 0
 nextNumber Nothing = 0
 nextNumber (Refused n) = n
 
+-- its values: whether there is one, and the entry
 abbrev pub nextValues : Next → List ℕ
 nextValues (Entry d) = 1 ∷ d .variable ∷ d .value ∷ d .clause ∷ []
 nextValues Nothing = 0 ∷ []

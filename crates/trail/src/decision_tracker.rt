@@ -1,6 +1,6 @@
-// The calls on the trail of a store of sound shape. The layers above, which have tested the shape, call these.
+// The calls on the trail of a store of sound shape. The crate's public calls test the shape and then call these.
 ghost use mathlib.Core.Path.{_≡_};
-ghost use Prim.Native.Nat.{_≤_, _<_};
+ghost use Prim.Native.Nat.{_≤_, _<_, min};
 ghost use lib.ListN.{length};
 ghost use Rattle.store.specs.Area.{at};
 ghost use Rattle.store.specs.Layout.{words, trailLength};
@@ -8,8 +8,8 @@ ghost use Rattle.store.specs.Limits.{variables, trailRoom, lastLevel};
 ghost use Rattle.store.specs.Numbers.{allFrom, firstFrom};
 ghost use Rattle.store.specs.Shape.{Sound};
 ghost use Rattle.trail.specs.Assign.{assignOn, assignIn, assignInStore, pushed};
-ghost use Rattle.trail.specs.Entries.{entries, decisionAt, lastLevelOf, entryAbove, entryOf, Entered};
-ghost use Rattle.trail.specs.UndoLast.{least, popped, undoLastIn, undoLastInStore};
+ghost use Rattle.trail.specs.Entries.{entries, decisionAt, levelOfLast, entryAbove, entryOf, Entered};
+ghost use Rattle.trail.specs.UndoLast.{popped, undoLastIn, undoLastInStore};
 ghost use Rattle.trail.specs.UndoUntil.{cleared, poppedTo, noStop, undoUntilIn, undoUntilInStore};
 ghost use Rattle.trail.specs.Next.{nextIn, nextInStore};
 ghost use Rattle.trail.specs.Look.{clauseIn, valueIn, lengthIn};
@@ -104,8 +104,9 @@ pub fn assign(s: &mut [u32], variable: u32, value: u32, level: u32, clause: u32)
     r
 }
 
+// The smaller of two numbers.
 fn least_of(a: u32, b: u32) -> u32
-    ensures { λ r. ⌜ r ≡ least a b ⌝ }
+    ensures { λ r. ⌜ r ≡ min a b ⌝ }
 {
     if a < b {
         return a;
@@ -116,7 +117,7 @@ fn least_of(a: u32, b: u32) -> u32
 // The level of the last entry, read from the map.
 fn last_level(s: &[u32]) -> u32
     requires { ⌜ (Entered (now s)) × (0 < at trailLength 0 (now s)) ⌝ }
-    ensures { λ r. ⌜ r ≡ lastLevelOf (now (s .entry)) ⌝ }
+    ensures { λ r. ⌜ r ≡ levelOfLast (now (s .entry)) ⌝ }
 {
     let n = read::trail_length(s);
     let variable = read::trail_variable(s, wide(n) - 1);
@@ -130,7 +131,7 @@ fn pop(s: &mut [u32])
 {
     let n = read::trail_length(s) - 1;
     let variable = read::trail_variable(s, wide(n));
-    let floor = least_of(n, read::sync_floor(s));
+    let floor = least_of(read::sync_floor(s), n);
     write::cell(s, wide(variable), 0);
     write::trail_length(s, n);
     write::propagated(s, n);
@@ -273,7 +274,7 @@ pub fn value_of(s: &[u32], variable: u32) -> Valued
     }
     let cell = read::cell(s, wide(variable));
     if cell == 0 {
-        return Valued::Open;
+        return Valued::Undecided;
     }
     Valued::Decided {
         value: decision_map::side(cell),

@@ -55,7 +55,7 @@ pub enum Cause {
 
 pub enum Valued {
     Decided { value: u32, level: u32 },
-    Open,
+    Undecided,
     Refused(u32),
 }
 
@@ -74,7 +74,7 @@ pub fn assign(s: &mut [u32], variable: u32, value: u32, level: u32, clause: u32)
     Assigned::Refused(1)
 }
 
-// Takes the last entry back; the only entry stays (6).
+// Takes the last entry back; with fewer than two entries 6.
 pub fn undo_last(s: &mut [u32]) -> Undone
     ensures { λ r. ⌜ (r ≡ undoLastOut (now (s .entry))) × (now (s .exit) ≡ undoLastStore (now (s .entry))) ⌝ }
 {

@@ -1,8 +1,8 @@
 use mathlib.Core.Path.{refl}
 use native.Mathlib.Omega.{arith}
 use Rattle.settings.proofs.FloatOrder.{order-eq, no-nan-bits}
-use Rattle.settings.proofs.activity.level.Statement.{statement}
-use Rattle.settings.proofs.activity.level.Tie as tie
+use Rattle.settings.proofs.activity.same.Statement.{statement}
+use Rattle.settings.proofs.activity.same.Tie as tie
 
 float-from-bits-result : tie.Need-float-from-bits-result
 float-from-bits-result c = no-nan-bits _ (omega arith)
@@ -13,5 +13,5 @@ float-from-bits-result-2 c = no-nan-bits _ (omega arith)
 returns : tie.Need-returns
 returns c = (refl, order-eq _ _ (omega arith) (omega arith))
 
-pub level-spec : {M : Type 1} → statement M
-level-spec = tie.close (tie.spec float-from-bits-result float-from-bits-result-2 returns)
+pub same-spec : {M : Type 1} → statement M
+same-spec = tie.close (tie.spec float-from-bits-result float-from-bits-result-2 returns)
