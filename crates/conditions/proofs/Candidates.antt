@@ -52,7 +52,7 @@ pub variable-at : (l : List ℕ) (i : ℕ) → every (upTo lastVariable) l ≡ t
 variable-at l i e h = leb-true (getD l i 0) lastVariable (every-at (upTo lastVariable) l e i h)
 
 -- the cells between two places are the conjunct's
-pub part-is : (cells : List ℕ) (start n a b : ℕ) → a ≡ start → b ≡ n → take (a + b - a) (drop a cells) ≡ conjunct cells start n
+part-is : (cells : List ℕ) (start n a b : ℕ) → a ≡ start → b ≡ n → take (a + b - a) (drop a cells) ≡ conjunct cells start n
 part-is cells start n a b e f =
     let z : a + b - a ≡ b = omega arith in
     rw (z, e, f)

@@ -1,7 +1,7 @@
 -- What rewriting answers, ground by ground, and what it leaves in the lent lists. Assumes nothing.
 use mathlib.Core.Bool.{Bool, true, false, not, cond, _||_}
 use mathlib.Core.List.{List}
-use mathlib.Core.Path.{_≡_, refl, _∙_}
+use mathlib.Core.Path.{_≡_, _∙_}
 use Prim.Native.Nat.{ℕ, _+_, _≤_, _<_, min}
 use native.Mathlib.Omega.{arith}
 use borrow.Author.Tests.{ltb-false, leb-false, not-false, lt-ltb, le-ltb, lt-leb, eq-eqb, ne-eqb}
@@ -10,21 +10,18 @@ use lib.ListN.{length, getD}
 use Rattle.conditions.proofs.Terms.{min-below, min-above}
 use Rattle.conditions.proofs.Whole.{short-whole, cells-whole, lengths-written, terms-written}
 use Rattle.conditions.specs.Dnf.{linked, terms}
-use Rattle.conditions.specs.Rewrite.{lengthsOf, joined, tooMuch, rewriteIn, rewriteInLengths, rewriteInCells}
+use Rattle.conditions.specs.Rewrite.{tooMuch, rewriteIn, rewriteInLengths, rewriteInCells}
 use Rattle.conditions.specs.Steps.{shortAt, cellsTo, lengthsLeft, cellsLeft}
-use Rattle.conditions.specs.Ways.{mostTerms, mostSets, Tallied, AllAsked}
-use Rattle.store.proofs.Choice.{neither, cond-no}
+use Rattle.conditions.specs.Ways.{Tallied, AllAsked}
+use Rattle.store.proofs.Choice.{neither, or-true, cond-no}
 use Rattle.store.specs.Area.{at}
 use Rattle.store.specs.Layout.{nodeKinds}
-use Rattle.store.specs.Limits.{nodes}
+use Rattle.store.specs.Lent.{lengthsOf, joined}
+use Rattle.store.specs.Limits.{nodes, mostTerms, mostSets}
 use Rattle.store.specs.Numbers.{allFrom}
 use Rattle.store.specs.Shape.{every, upTo}
 use Rattle.conditions.specs.declared.Rewritten.{Rewritten}
 use Rattle.conditions.specs.declared.Rewritten.the-variants.{Terms, Refused}
-
-or-true : (a : Bool) → a || true ≡ true
-or-true true = refl
-or-true false = refl
 
 -- a node that is not loaded
 pub unloaded : (w : List ℕ) (node rooms room k kind : ℕ) → node < nodes → k ≡ node → kind ≡ at nodeKinds k w → kind ≡ 0 → Refused 2 ≡ rewriteIn w node rooms room

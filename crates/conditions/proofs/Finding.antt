@@ -7,10 +7,12 @@ use native.Mathlib.Omega.{arith}
 use borrow.Author.Tests.{ne-eqb}
 use lib.ListN.{length, getD, length-append, List·getD-append}
 use lib.Seq.{getD-append-add}
+use Rattle.store.specs.Limits.{mostTerms}
 use Rattle.conditions.proofs.Terms.{length-cross, at-cross, min-small, linked-at, none-linked}
 use Rattle.conditions.specs.Dnf.{cross, nodeTerms, linked, termOf}
-use Rattle.conditions.specs.Ways.{mostTerms, Tallied, Asked, Good}
+use Rattle.conditions.specs.Ways.{Tallied, Asked, Good}
 use Rattle.store.specs.Area.{at}
+use Rattle.store.specs.Codes.{leafKind, andKind}
 use Rattle.store.specs.Layout.{nodeKinds, nodeSets, nodeLefts, nodeRights}
 use Rattle.store.specs.Shape.{Sound}
 use Rattle.conditions.specs.declared.Way.the-variants.{Leaf, One, Two}
@@ -56,7 +58,7 @@ module _ {w counts : List ℕ} {c k i : ℕ} (at-k : Located w counts c k i) whe
   exact : (d : ℕ) → d < c → length (linked w d) ≤ mostTerms → getD counts d 0 ≡ length (linked w d)
   exact d h m = at-k .tallied d (omega (arith, at-k .asked .inside)) ∙ min-small (mostTerms + 1) (length (linked w d)) (omega arith)
 
-  module _ (leaf : at nodeKinds k w ≡ 1) where
+  module _ (leaf : at nodeKinds k w ≡ leafKind) where
     leaf-is : linked w c ≡ (at nodeSets k w ∷ []) ∷ []
     unfolding nodeTerms
     leaf-is = linked-at w (at-k .sound) c k (at-k .is) ∙ rw leaf
@@ -68,7 +70,7 @@ module _ {w counts : List ℕ} {c k i : ℕ} (at-k : Located w counts c k i) whe
         let z : i ≡ 0 = omega (arith, at-k .asked .there) in
         rw (leaf-is, z)
 
-  module _ (isAnd : at nodeKinds k w ≡ 2) where
+  module _ (isAnd : at nodeKinds k w ≡ andKind) where
     and-is : linked w c ≡ cross L R
     unfolding nodeTerms
     and-is = linked-at w (at-k .sound) c k (at-k .is) ∙ rw isAnd
@@ -105,7 +107,7 @@ module _ {w counts : List ℕ} {c k i : ℕ} (at-k : Located w counts c k i) whe
         rw counted
         (l-below, record { inside = omega (arith, at-k .asked .inside, l-below); there = q; few = L-few }, r-below, record { inside = omega (arith, at-k .asked .inside, r-below); there = m; few = R-few }, rw (and-is) (ap (λ n. getD (cross L R) n []) (sym (div-add-mod' i (length R))) ∙ at-cross L R (i / length R) (i % length R) q m))
 
-  module _ (noLeaf : at nodeKinds k w ≡ 1 → ⊥) (noAnd : at nodeKinds k w ≡ 2 → ⊥) where
+  module _ (noLeaf : at nodeKinds k w ≡ leafKind → ⊥) (noAnd : at nodeKinds k w ≡ andKind → ⊥) where
     loaded : at nodeKinds k w ≡ 0 → ⊥
     unfolding nodeTerms
     loaded z =
@@ -115,7 +117,7 @@ module _ {w counts : List ℕ} {c k i : ℕ} (at-k : Located w counts c k i) whe
 
     or-is : linked w c ≡ L ++ R
     unfolding nodeTerms
-    or-is = linked-at w (at-k .sound) c k (at-k .is) ∙ rw (ne-eqb (at nodeKinds k w) 0 loaded, ne-eqb (at nodeKinds k w) 1 noLeaf, ne-eqb (at nodeKinds k w) 2 noAnd)
+    or-is = linked-at w (at-k .sound) c k (at-k .is) ∙ rw (ne-eqb (at nodeKinds k w) 0 loaded, ne-eqb (at nodeKinds k w) leafKind noLeaf, ne-eqb (at nodeKinds k w) andKind noAnd)
 
     or-length : length (linked w c) ≡ length L + length R
     or-length = ap length or-is ∙ length-append L R

@@ -6,7 +6,9 @@ use Prim.Native.Nat.{ℕ, zero, suc, _+_}
 use lib.Dec.{eqb}
 use Rattle.conditions.specs.Dnf.{behind, cross, nodeTerms, dnf, linked, terms}
 use Rattle.conditions.specs.Truth.{some, nodeTruth, truth, treeHolds, termsHold}
+use Rattle.store.proofs.Choice.{or-assoc, and-none}
 use Rattle.store.specs.Area.{at}
+use Rattle.store.specs.Codes.{leafKind, andKind}
 use Rattle.store.specs.Layout.{nodeKinds, nodeSets, nodeLefts, nodeRights}
 use Rattle.store.specs.Shape.{every}
 
@@ -20,10 +22,6 @@ every-append p (x ∷ l) r = rw (every-append p l r) (and-assoc (p x) (every p l
     and-assoc true b c = refl
     and-assoc false b c = refl
 
-or-assoc : (a b c : Bool) → a || (b || c) ≡ (a || b) || c
-or-assoc true b c = refl
-or-assoc false b c = refl
-
 some-append : (p : ℕ → Bool) (l r : List (List ℕ)) → termsHold p (l ++ r) ≡ termsHold p l || termsHold p r
 unfolding some
 some-append p [] r = refl
@@ -32,11 +30,7 @@ some-append p (x ∷ l) r = rw (some-append p l r) (or-assoc (every p x) (termsH
 -- a term followed by some terms
 some-behind : (p : ℕ → Bool) (x : List ℕ) (r : List (List ℕ)) → termsHold p (behind x r) ≡ every p x && termsHold p r
 unfolding some behind
-some-behind p x [] = go (every p x)
-  where
-    go : (a : Bool) → false ≡ a && false
-    go true = refl
-    go false = refl
+some-behind p x [] = sym (and-none (every p x))
 some-behind p x (y ∷ r) = rw (some-behind p x r, every-append p x y) (go (every p x) (every p y) (termsHold p r))
   where
     go : (a b c : Bool) → (a && b) || (a && c) ≡ a && (b || c)
@@ -57,7 +51,7 @@ some-cross p (x ∷ l) r = some-append p (behind x r) (cross l r) ∙ rw (some-b
 
 node-holds : (p : ℕ → Bool) (kind v : ℕ) (l r : List (List ℕ)) → nodeTruth kind (p v) (termsHold p l) (termsHold p r) ≡ termsHold p (nodeTerms kind v l r)
 unfolding nodeTruth nodeTerms some every
-node-holds p kind v l r = go (eqb kind 0) (eqb kind 1) (eqb kind 2)
+node-holds p kind v l r = go (eqb kind 0) (eqb kind leafKind) (eqb kind andKind)
   where
     one : (a : Bool) → a ≡ (a && true) || false
     one true = refl

@@ -1,6 +1,6 @@
 -- How long terms are: a term's length by those of its parts, and the sum over all terms. Assumes nothing.
 use mathlib.Core.Bool.{true, false}
-use mathlib.Core.List.{List, _++_}
+use mathlib.Core.List.{List}
 use mathlib.Core.Path.{_≡_, refl, sym, ap, _∙_}
 use Prim.Native.Nat.{ℕ, zero, suc, _+_, _-_, _*_, _≤_, _<_, min}
 use native.Mathlib.Nat.{zero-add, min-eq-left}
@@ -9,29 +9,31 @@ use native.Mathlib.Omega.{arith}
 use borrow.Author.Tests.{leb-true, le-leb, lt-leb}
 use lib.Dec.{T}
 use lib.ListN.{length, length-append}
+use Rattle.store.specs.Limits.{mostTerms, mostSets}
 use Rattle.conditions.proofs.Terms.{min-most, min-below, min-above, min-small, sat-add}
 use Rattle.conditions.specs.Dnf.{termOf}
 use Rattle.conditions.specs.Steps.{shortAt, cellsTo}
-use Rattle.conditions.specs.Ways.{mostTerms, mostSets, Asked, AllAsked}
+use Rattle.conditions.specs.Ways.{Asked, AllAsked, Good}
+use Rattle.conditions.specs.declared.Way.the-variants.{Two}
 use Rattle.store.proofs.Loops.{all-at}
 use Rattle.store.specs.Numbers.{allFrom}
 
 -- a term that is two parts
-module _ (T A B : List ℕ) (is : T ≡ A ++ B) where
-  pub parts-length : length T ≡ length A + length B
-  parts-length = ap length is ∙ length-append A B
+module _ (w : List ℕ) (c i d m e n : ℕ) (two : Good w c i (Two d m e n)) where
+  pub parts-length : length (termOf w c i) ≡ length (termOf w d m) + length (termOf w e n)
+  parts-length = ap length (two .4) ∙ length-append (termOf w d m) (termOf w e n)
 
   -- a first part above the limit settles the whole
-  pub long-first : (x : ℕ) → x ≡ min (mostSets + 1) (length A) → mostSets < x → x ≡ min (mostSets + 1) (length T)
-  long-first x e h =
-      let m = min-most (mostSets + 1) (length A) in
-      let a = min-above (mostSets + 1) (length A) (omega arith) in
-      let t : mostSets + 1 ≤ length T = omega (arith, parts-length) in
+  pub long-first : (x : ℕ) → x ≡ min (mostSets + 1) (length (termOf w d m)) → mostSets < x → x ≡ min (mostSets + 1) (length (termOf w c i))
+  long-first x f h =
+      let most = min-most (mostSets + 1) (length (termOf w d m)) in
+      let a = min-above (mostSets + 1) (length (termOf w d m)) (omega arith) in
+      let t : mostSets + 1 ≤ length (termOf w c i) = omega (arith, parts-length) in
       let z : x ≡ mostSets + 1 = omega arith in
       z ∙ sym (min-eq-left t)
 
-  pub sum-capped : (x y r : ℕ) → x ≡ min (mostSets + 1) (length A) → y ≡ min (mostSets + 1) (length B) → r ≡ min (mostSets + 1) (x + y) → r ≡ min (mostSets + 1) (length T)
-  sum-capped x y r e f g = g ∙ rw (e, f, parts-length) (sat-add (mostSets + 1) (length A) (length B))
+  pub sum-capped : (x y r : ℕ) → x ≡ min (mostSets + 1) (length (termOf w d m)) → y ≡ min (mostSets + 1) (length (termOf w e n)) → r ≡ min (mostSets + 1) (x + y) → r ≡ min (mostSets + 1) (length (termOf w c i))
+  sum-capped x y r f g h = h ∙ rw (f, g, parts-length) (sat-add (mostSets + 1) (length (termOf w d m)) (length (termOf w e n)))
 
 pub capped-most : (T : List ℕ) (x : ℕ) → x ≡ min (mostSets + 1) (length T) → x ≤ mostSets + 1
 capped-most T x e = rw e (min-most (mostSets + 1) (length T))

@@ -7,9 +7,10 @@ use native.Mathlib.Numerals.{add-one}
 use native.Mathlib.Omega.{arith}
 use lib.ListN.{length, getD, set}
 use lib.Seq.{getD-set-same, getD-set-other}
+use Rattle.store.specs.Limits.{mostTerms}
 use Rattle.conditions.proofs.Terms.{min-most, count-node, linked-at}
 use Rattle.conditions.specs.Dnf.{dnf, linked}
-use Rattle.conditions.specs.Ways.{mostTerms, countOf}
+use Rattle.conditions.specs.Ways.{countOf}
 use Rattle.store.proofs.Choice.{eq-or}
 use Rattle.store.specs.Area.{at}
 use Rattle.store.specs.Layout.{nodeKinds, nodeSets, nodeLefts, nodeRights}

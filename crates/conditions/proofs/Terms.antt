@@ -9,10 +9,12 @@ use native.Mathlib.Omega.{arith}
 use lib.Dec.{eqb}
 use lib.ListN.{length, getD, length-append, List·getD-append}
 use lib.Seq.{getD-append-add}
+use Rattle.store.specs.Limits.{mostTerms}
 use Rattle.conditions.specs.Dnf.{behind, cross, nodeTerms, dnf, linked}
-use Rattle.conditions.specs.Ways.{mostTerms, countOf}
+use Rattle.conditions.specs.Ways.{countOf}
 use Rattle.store.proofs.Choice.{lt-or}
 use Rattle.store.specs.Area.{at}
+use Rattle.store.specs.Codes.{leafKind, andKind}
 use Rattle.store.specs.Layout.{nodeKinds, nodeSets, nodeLefts, nodeRights}
 use Rattle.store.specs.Shape.{Sound}
 
@@ -109,7 +111,7 @@ module _ (m : ℕ) where
 -- a node's count from those of its children
 pub count-node : (kind v : ℕ) (l r : List (List ℕ)) → min (mostTerms + 1) (countOf kind (min (mostTerms + 1) (length l)) (min (mostTerms + 1) (length r))) ≡ min (mostTerms + 1) (length (nodeTerms kind v l r))
 unfolding countOf nodeTerms
-count-node kind v l r = go (eqb kind 0) (eqb kind 1) (eqb kind 2)
+count-node kind v l r = go (eqb kind 0) (eqb kind leafKind) (eqb kind andKind)
   where
     M : ℕ
     M = mostTerms + 1

@@ -7,19 +7,15 @@ use native.Mathlib.Nat.{zero-add, add-zero, le-of-eq}
 use native.Mathlib.Omega.{arith}
 use lib.Dec.{leb}
 use lib.ListN.{length, getD, take, set, length-append}
-use lib.Seq.{take-suc, length-take-le, sets, take-length, sets-eq}
+use lib.Seq.{take-suc, length-take-le, sets, take-length}
+use Rattle.store.proofs.LentLaws.{length-lengths, sets-over}
+use Rattle.store.specs.Lent.{lengthsOf, joined, over}
+use Rattle.store.specs.Limits.{mostSets}
 use Rattle.conditions.proofs.Writing.{sets-append}
 use Rattle.conditions.specs.Dnf.{linked, termOf}
-use Rattle.conditions.specs.Rewrite.{lengthsOf, joined, over}
 use Rattle.conditions.specs.Steps.{shortAt, cellsTo, lengthsLeft, cellsLeft}
-use Rattle.conditions.specs.Ways.{mostSets}
 use Rattle.store.specs.Numbers.{allFrom}
 use Rattle.store.specs.Shape.{every, upTo}
-
-length-lengths : (ts : List (List ℕ)) → length (lengthsOf ts) ≡ length ts
-unfolding lengthsOf
-length-lengths [] = refl
-length-lengths (t ∷ ts) = ap suc (length-lengths ts)
 
 lengths-snoc : (ts : List (List ℕ)) (t : List ℕ) → lengthsOf (ts ++ (t ∷ [])) ≡ lengthsOf ts ++ (length t ∷ [])
 unfolding lengthsOf
@@ -43,11 +39,6 @@ short-from (t ∷ ts) q i f =
     (λ j h.
     let e : i + 1 + j ≡ i + suc j = omega arith in
     rw e (f (suc j) (omega arith)))))
-
--- a list written from the first place on
-pub sets-over : (xs l : List ℕ) → length xs ≤ length l → sets l 0 xs ≡ over xs l
-unfolding over
-sets-over xs l h = sets-eq xs l 0 (omega arith) ∙ rw (zero-add (length xs))
 
 module _ (w : List ℕ) (c : ℕ) where
   -- the first n terms, one more

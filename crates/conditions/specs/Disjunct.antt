@@ -26,6 +26,7 @@ conjunct cells start n = take n (drop start cells)
 unfoldable pub sane : List ℕ → ℕ → ℕ → ℕ → Bool
 sane cells kind start n = leb kind lastKind && leb (start + n) (length cells) && every (upTo lastVariable) (conjunct cells start n)
 
+-- conjunct j of the lent lists is sane
 unfoldable pub saneAt : List ℕ → List ℕ → List ℕ → List ℕ → ℕ → Bool
 saneAt kinds starts lengths cells j = sane cells (getD kinds j 0) (getD starts j 0) (getD lengths j 0)
 
@@ -54,12 +55,13 @@ disjunctIn w kinds starts lengths cells =
 unfoldable pub disjunctOut : List ℕ → List ℕ → List ℕ → List ℕ → List ℕ → Holds
 disjunctOut w kinds starts lengths cells = cond (soundShape w) (disjunctIn w kinds starts lengths cells) (Refused 1)
 
--- the answer's number and values in document 01
+-- the answer's number in document 01
 abbrev pub holdsNumber : Holds → ℕ
 holdsNumber Yes = 0
 holdsNumber No = 0
 holdsNumber (Refused n) = n
 
+-- its values: 1 if it holds
 abbrev pub holdsValues : Holds → List ℕ
 holdsValues Yes = 1 ∷ []
 holdsValues No = 0 ∷ []

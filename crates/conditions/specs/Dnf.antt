@@ -5,6 +5,7 @@ use Prim.Native.Nat.{ℕ, zero, suc, _+_}
 use lib.Dec.{eqb}
 use lib.ListN.{getD}
 use Rattle.store.specs.Area.{at}
+use Rattle.store.specs.Codes.{leafKind, andKind}
 use Rattle.store.specs.Layout.{nodeKinds, nodeSets, nodeLefts, nodeRights}
 
 -- every one of some terms behind a given one
@@ -18,10 +19,11 @@ unfolding behind
 cross [] r = []
 cross (x ∷ l) r = behind x r ++ cross l r
 
--- "A leaf gives one term of one version set. Or joins the left terms and then the right." And gives the product; a node that is not loaded has no terms
+-- "A leaf gives one term of one version set. Or joins the left terms and then the right." And gives the product; a node that is not
+-- loaded has no terms
 unfoldable pub nodeTerms : ℕ → ℕ → List (List ℕ) → List (List ℕ) → List (List ℕ)
 unfolding cross
-nodeTerms kind v l r = cond (eqb kind 0) [] (cond (eqb kind 1) ((v ∷ []) ∷ []) (cond (eqb kind 2) (cross l r) (l ++ r)))
+nodeTerms kind v l r = cond (eqb kind 0) [] (cond (eqb kind leafKind) ((v ∷ []) ∷ []) (cond (eqb kind andKind) (cross l r) (l ++ r)))
 
 -- the terms under a link, which is 0 for none and else one more than a node; the first number only bounds the depth
 unfoldable pub dnf : ℕ → List ℕ → ℕ → List (List ℕ)

@@ -5,8 +5,8 @@ use Prim.Native.Nat.{ℕ, zero, suc, _+_}
 use lib.Dec.{leb}
 use lib.ListN.{length, set}
 use lib.Seq.{sets}
+use Rattle.store.specs.Limits.{mostSets}
 use Rattle.conditions.specs.Dnf.{termOf}
-use Rattle.conditions.specs.Ways.{mostSets}
 
 -- a term is not too long
 unfoldable pub shortAt : List ℕ → ℕ → ℕ → Bool

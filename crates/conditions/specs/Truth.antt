@@ -4,6 +4,7 @@ use mathlib.Core.List.{List, [], _∷_}
 use Prim.Native.Nat.{ℕ, zero, suc, _+_}
 use lib.Dec.{eqb}
 use Rattle.store.specs.Area.{at}
+use Rattle.store.specs.Codes.{leafKind, andKind}
 use Rattle.store.specs.Layout.{nodeKinds, nodeSets, nodeLefts, nodeRights}
 use Rattle.store.specs.Shape.{every}
 
@@ -14,7 +15,7 @@ some p (x ∷ xs) = p x || some p xs
 
 -- whether a node holds, by whether its children do
 unfoldable pub nodeTruth : ℕ → Bool → Bool → Bool → Bool
-nodeTruth kind v l r = cond (eqb kind 0) false (cond (eqb kind 1) v (cond (eqb kind 2) (l && r) (l || r)))
+nodeTruth kind v l r = cond (eqb kind 0) false (cond (eqb kind leafKind) v (cond (eqb kind andKind) (l && r) (l || r)))
 
 -- whether the tree under a link holds; the first number only bounds the depth
 unfoldable pub truth : (ℕ → Bool) → ℕ → List ℕ → ℕ → Bool

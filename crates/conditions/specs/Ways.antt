@@ -6,16 +6,10 @@ use Prim.Native.Nat.{ℕ, _+_, _*_, _≤_, _<_, min}
 use lib.Dec.{eqb}
 use lib.ListN.{length, getD}
 use Rattle.conditions.specs.Dnf.{linked, termOf}
-use Rattle.store.specs.Limits.{nodes}
+use Rattle.store.specs.Codes.{leafKind, andKind}
+use Rattle.store.specs.Limits.{nodes, mostTerms}
 use Rattle.conditions.specs.declared.Way.{Way}
 use Rattle.conditions.specs.declared.Way.the-variants.{Leaf, One, Two}
-
--- "at most 64 terms of at most 16 version sets"
-abbrev pub mostTerms : ℕ
-mostTerms = 64
-
-abbrev pub mostSets : ℕ
-mostSets = 16
 
 -- a place for each link: none, and each node
 abbrev pub links : ℕ
@@ -23,7 +17,7 @@ links = nodes + 1
 
 -- a node's count of terms from those of its children
 unfoldable pub countOf : ℕ → ℕ → ℕ → ℕ
-countOf kind l r = cond (eqb kind 0) 0 (cond (eqb kind 1) 1 (cond (eqb kind 2) (l * r) (l + r)))
+countOf kind l r = cond (eqb kind 0) 0 (cond (eqb kind leafKind) 1 (cond (eqb kind andKind) (l * r) (l + r)))
 
 -- the counts of the terms under every link, 65 standing for all that are above 64
 abbrev pub Tallied : List ℕ → List ℕ → Type 0

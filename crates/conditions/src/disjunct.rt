@@ -1,7 +1,8 @@
-// Whether a disjunct holds on a store of sound shape. A conjunct is a kind beside a range of lent cells.
+// Whether a disjunct holds on a store of sound shape. The crate's public calls test the shape and then call these.
+// A conjunct is a kind beside a range of lent cells.
 ghost use mathlib.Core.Path.{_≡_};
 ghost use mathlib.Core.Bool.{true};
-ghost use Prim.Native.Nat.{_≤_, _<_};
+ghost use Prim.Native.Nat.{_<_};
 ghost use lib.ListN.{length};
 ghost use Rattle.store.specs.Limits.{lastVariable};
 ghost use Rattle.store.specs.Numbers.{allFrom};
@@ -16,7 +17,7 @@ use store::wide;
 use trail::decision_map;
 
 // The largest kind of a conjunct: 0 solvables, 1 empty.
-pub const LAST_KIND: usize = 1;
+const LAST_KIND: usize = 1;
 
 // Whether a candidate of the list is assigned true.
 fn some_true(s: &[u32], list: &[u32]) -> bool

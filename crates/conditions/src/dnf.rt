@@ -1,30 +1,27 @@
-// Rewriting a condition on a store of sound shape. Term i under a link is found by its index, so nothing is kept between the terms.
-// A link is 0 for none, else one more than a node; the links below a node are at most its number.
+// Rewriting a condition on a store of sound shape. The crate's public calls test the shape and then call these.
+// Term i under a link is found by its index, so nothing is kept between the terms. A link is 0 for none, else one more than a node;
+// the links below a node are at most its number.
 ghost use mathlib.Core.Path.{_≡_};
 ghost use mathlib.Core.Bool.{true};
 ghost use Prim.Native.Nat.{_+_, _*_, _≤_, _<_, min};
 ghost use lib.ListN.{length};
 ghost use lib.Seq.{sets};
 ghost use Rattle.store.specs.Numbers.{allFrom};
+ghost use Rattle.store.specs.Limits.{mostTerms, mostSets};
 ghost use Rattle.store.specs.Shape.{Sound};
-ghost use Rattle.conditions.specs.Dnf.{linked, termOf};
-ghost use Rattle.conditions.specs.Ways.{mostTerms, mostSets, countOf, Tallied, Asked, AllAsked, Good};
+ghost use Rattle.conditions.specs.Dnf.{termOf};
+ghost use Rattle.conditions.specs.Ways.{countOf, Tallied, Asked, AllAsked, Good};
 ghost use Rattle.conditions.specs.Rewrite.{rewriteIn, rewriteInLengths, rewriteInCells};
 ghost use Rattle.conditions.specs.Steps.{cellsTo, shortAt, lengthsLeft, cellsLeft};
 use crate::Rewritten;
 use crate::Way;
+use store::codes;
 use store::limits;
 use store::read;
 use store::wide;
 
-// A rewritten condition has at most 64 terms.
-pub const MOST_TERMS: usize = 64;
-
-// Of at most 16 version sets.
-pub const MOST_SETS: usize = 16;
-
 // A place for each link: none, and each node.
-pub const LINKS: usize = limits::NODES + 1;
+const LINKS: usize = limits::NODES + 1;
 
 // x, or `most` where it is above that.
 fn capped(x: u32, most: u32) -> u32
@@ -44,13 +41,13 @@ fn count_of(kind: u32, l: u32, r: u32) -> u32
     if kind == 0 {
         return 0;
     }
-    if kind == 1 {
+    if kind == codes::LEAF {
         return 1;
     }
-    if kind == 2 {
-        return capped(l * r, MOST_TERMS as u32 + 1);
+    if kind == codes::AND {
+        return capped(l * r, limits::MOST_TERMS as u32 + 1);
     }
-    capped(l + r, MOST_TERMS as u32 + 1)
+    capped(l + r, limits::MOST_TERMS as u32 + 1)
 }
 
 // How many terms are under each link.
@@ -78,12 +75,12 @@ fn way_of(s: &[u32], counts: &[u32; LINKS], c: usize, i: usize) -> Way
 {
     let k = c - 1;
     let kind = read::node_kind(s, k);
-    if kind == 1 {
+    if kind == codes::LEAF {
         return Way::Leaf(read::node_set(s, k));
     }
     let l = wide(read::node_left(s, k));
     let r = wide(read::node_right(s, k));
-    if kind == 2 {
+    if kind == codes::AND {
         let n = wide(counts[r]);
         return Way::Two(l, i / n, r, i % n);
     }
@@ -106,10 +103,13 @@ fn term_length(s: &[u32], counts: &[u32; LINKS], c: usize, i: usize) -> u32
         Way::One(d, m) => term_length(s, counts, d, m),
         Way::Two(d, m, e, n) => {
             let first = term_length(s, counts, d, m);
-            if (MOST_SETS as u32) < first {
+            if (limits::MOST_SETS as u32) < first {
                 return first;
             }
-            capped(first + term_length(s, counts, e, n), MOST_SETS as u32 + 1)
+            capped(
+                first + term_length(s, counts, e, n),
+                limits::MOST_SETS as u32 + 1,
+            )
         }
     }
 }
@@ -144,7 +144,7 @@ fn all_short(s: &[u32], counts: &[u32; LINKS], c: usize, n: usize) -> bool
 {
     let mut i: usize = 0;
     while i < n {
-        if (MOST_SETS as u32) < term_length(s, counts, c, i) {
+        if (limits::MOST_SETS as u32) < term_length(s, counts, c, i) {
             return false;
         }
         i += 1;
@@ -183,7 +183,7 @@ fn rewrite_case(s: &[u32], counts: &[u32; LINKS], node: u32, rooms: usize, room:
         return Rewritten::Refused(2);
     }
     let n = wide(counts[k + 1]);
-    if MOST_TERMS < n {
+    if limits::MOST_TERMS < n {
         return Rewritten::Refused(3);
     }
     if all_short(s, counts, k + 1, n) {

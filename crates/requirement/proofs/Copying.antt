@@ -9,14 +9,16 @@ use native.Mathlib.Omega.{arith}
 use borrow.Author.Tests.{ltb-true, ltb-false, not-false, lt-ltb, le-ltb}
 use lib.Dec.{ltb, eqb}
 use lib.ListN.{length, set, length-append, length-take, length-drop}
-use lib.Seq.{sets, sets-eq}
+use lib.Seq.{sets}
 use Rattle.requirement.proofs.Loading.{sets-most}
-use Rattle.requirement.specs.Copy.{tabled, lens, joined, tableOf, copyIn, over, copyInLengths, copyInCells}
+use Rattle.requirement.specs.Copy.{tabled, tableOf, copyIn, copyInLengths, copyInCells}
 use Rattle.requirement.specs.Part.{Named}
 use Rattle.requirement.specs.Tables.{keyOf, requirementOf, keyAt, firstSlot, setCount, listCount, cellsOf, listsFrom}
 use Rattle.store.proofs.Choice.{both, neither, cond-no}
+use Rattle.store.proofs.LentLaws.{length-lengths, sets-over}
 use Rattle.store.specs.Area.{Area, area, at, put, putRun}
 use Rattle.store.specs.Layout.{tablesLoaded}
+use Rattle.store.specs.Lent.{lengthsOf, joined, over}
 use Rattle.store.specs.Limits.{versionSets, unions, unionRoom, cellRoom}
 use Rattle.store.specs.Shape.{Ranged}
 use Rattle.requirement.specs.declared.Requirement.{Requirement}
@@ -38,7 +40,7 @@ unfolding cellsOf area
 cells-most w slot = simp (length-take, length-drop) (omega arith)
 
 -- two lists copied one behind the other
-pub run-append : (a : Area) (i : ℕ) (xs ys w : List ℕ) → putRun a i (xs ++ ys) w ≡ putRun a (i + length xs) ys (putRun a i xs w)
+run-append : (a : Area) (i : ℕ) (xs ys w : List ℕ) → putRun a i (xs ++ ys) w ≡ putRun a (i + length xs) ys (putRun a i xs w)
 unfolding putRun
 run-append a i [] ys w = rw (add-zero i)
 run-append a i (x ∷ xs) ys w =
@@ -51,11 +53,8 @@ unfolding putRun put
 run-sets n i [] l = refl
 run-sets n i (x ∷ xs) l = rw (zero-add i, add-one i) (run-sets n (suc i) xs (set l i x))
 
-pub run-over : (n : ℕ) (xs l : List ℕ) → length xs ≤ length l → putRun (record { base = 0; size = n }) 0 xs l ≡ over xs l
-unfolding over
-run-over n xs l h =
-    let e : 0 + length xs ≡ length xs = omega arith in
-    run-sets n 0 xs l ∙ rw e at (sets-eq xs l 0 (omega arith))
+run-over : (n : ℕ) (xs l : List ℕ) → length xs ≤ length l → putRun (record { base = 0; size = n }) 0 xs l ≡ over xs l
+run-over n xs l h = run-sets n 0 xs l ∙ sets-over xs l h
 
 -- the lists that are left
 module _ (w : List ℕ) (slot n : ℕ) where
@@ -64,13 +63,13 @@ module _ (w : List ℕ) (slot n : ℕ) where
       let e : n - 0 ≡ n = omega arith in
       rw (e, add-zero slot)
 
-  pub left-none : (j : ℕ) → n ≤ j → listsFrom w (slot + j) (n - j) ≡ []
+  left-none : (j : ℕ) → n ≤ j → listsFrom w (slot + j) (n - j) ≡ []
   unfolding listsFrom
   left-none j h =
       let e : n - j ≡ 0 = omega arith in
       rw e
 
-  pub left-turn : (j : ℕ) → j < n → listsFrom w (slot + j) (n - j) ≡ cellsOf w (slot + j) ∷ listsFrom w (slot + (j + 1)) (n - (j + 1))
+  left-turn : (j : ℕ) → j < n → listsFrom w (slot + j) (n - j) ≡ cellsOf w (slot + j) ∷ listsFrom w (slot + (j + 1)) (n - (j + 1))
   unfolding listsFrom
   left-turn j h =
       let e : n - j ≡ suc (n - (j + 1)) = omega arith in
@@ -87,16 +86,16 @@ module _ (w : List ℕ) (slot n : ℕ) where
   sum-none j h = rw (left-none j h)
 
   -- copying lengths
-  module _ (m : ℕ) (l₀ l : List ℕ) (j : ℕ) (so : putRun (record { base = 0; size = m }) 0 (lens (listsFrom w slot n)) l₀ ≡ putRun (record { base = 0; size = m }) j (lens (listsFrom w (slot + j) (n - j))) l) where
-    pub lens-turn : j < n → putRun (record { base = 0; size = m }) 0 (lens (listsFrom w slot n)) l₀ ≡ putRun (record { base = 0; size = m }) (j + 1) (lens (listsFrom w (slot + (j + 1)) (n - (j + 1)))) (set l j (length (cellsOf w (slot + j))))
-    unfolding putRun put lens
-    lens-turn h =
-        let step : putRun (record { base = 0; size = m }) j (lens (cellsOf w (slot + j) ∷ listsFrom w (slot + (j + 1)) (n - (j + 1)))) l ≡ putRun (record { base = 0; size = m }) (j + 1) (lens (listsFrom w (slot + (j + 1)) (n - (j + 1)))) (set l j (length (cellsOf w (slot + j)))) = ap (λ k. putRun (record { base = 0; size = m }) (j + 1) (lens (listsFrom w (slot + (j + 1)) (n - (j + 1)))) (set l k (length (cellsOf w (slot + j))))) (zero-add j) in
-        so ∙ ap (λ t. putRun (record { base = 0; size = m }) j (lens t) l) (left-turn j h) ∙ step
+  module _ (m : ℕ) (l₀ l : List ℕ) (j : ℕ) (so : putRun (record { base = 0; size = m }) 0 (lengthsOf (listsFrom w slot n)) l₀ ≡ putRun (record { base = 0; size = m }) j (lengthsOf (listsFrom w (slot + j) (n - j))) l) where
+    pub lengths-turn : j < n → putRun (record { base = 0; size = m }) 0 (lengthsOf (listsFrom w slot n)) l₀ ≡ putRun (record { base = 0; size = m }) (j + 1) (lengthsOf (listsFrom w (slot + (j + 1)) (n - (j + 1)))) (set l j (length (cellsOf w (slot + j))))
+    unfolding putRun put lengthsOf
+    lengths-turn h =
+        let step : putRun (record { base = 0; size = m }) j (lengthsOf (cellsOf w (slot + j) ∷ listsFrom w (slot + (j + 1)) (n - (j + 1)))) l ≡ putRun (record { base = 0; size = m }) (j + 1) (lengthsOf (listsFrom w (slot + (j + 1)) (n - (j + 1)))) (set l j (length (cellsOf w (slot + j)))) = ap (λ k. putRun (record { base = 0; size = m }) (j + 1) (lengthsOf (listsFrom w (slot + (j + 1)) (n - (j + 1)))) (set l k (length (cellsOf w (slot + j))))) (zero-add j) in
+        so ∙ ap (λ t. putRun (record { base = 0; size = m }) j (lengthsOf t) l) (left-turn j h) ∙ step
 
-    pub lens-done : n ≤ j → l ≡ putRun (record { base = 0; size = m }) 0 (lens (listsFrom w slot n)) l₀
-    unfolding putRun lens
-    lens-done h = sym (so ∙ ap (λ t. putRun (record { base = 0; size = m }) j (lens t) l) (left-none j h))
+    pub lengths-done : n ≤ j → l ≡ putRun (record { base = 0; size = m }) 0 (lengthsOf (listsFrom w slot n)) l₀
+    unfolding putRun lengthsOf
+    lengths-done h = sym (so ∙ ap (λ t. putRun (record { base = 0; size = m }) j (lengthsOf t) l) (left-none j h))
 
   -- copying cells
   module _ (m : ℕ) (l₀ l : List ℕ) (j place : ℕ) (so : putRun (record { base = 0; size = m }) 0 (joined (listsFrom w slot n)) l₀ ≡ putRun (record { base = 0; size = m }) place (joined (listsFrom w (slot + j) (n - j))) l) where
@@ -111,12 +110,7 @@ module _ (w : List ℕ) (slot n : ℕ) where
     unfolding putRun joined
     joined-done h = sym (so ∙ ap (λ t. putRun (record { base = 0; size = m }) place (joined t) l) (left-none j h))
 
-pub length-lens : (ls : List (List ℕ)) → length (lens ls) ≡ length ls
-unfolding lens
-length-lens [] = refl
-length-lens (l ∷ ls) = ap suc (length-lens ls)
-
-pub length-from : (w : List ℕ) (slot n : ℕ) → length (listsFrom w slot n) ≡ n
+length-from : (w : List ℕ) (slot n : ℕ) → length (listsFrom w slot n) ≡ n
 unfolding listsFrom
 length-from w slot zero = refl
 length-from w slot (suc n) = ap suc (length-from w (slot + 1) n)
@@ -163,13 +157,13 @@ refused-done k n m e = let z : _≡_ {A = ℕ} 0 1 = cc in omega arith
 done-same : (a b n m : ℕ) → Done a b ≡ Done n m → (a ≡ n) × (b ≡ m)
 done-same a b n m e = (cc, cc)
 
-pub record Copies (w : List ℕ) (kind id n m count sum : ℕ) : Type 0 where
+pub record Copies (w : List ℕ) (kind id n m count : ℕ) : Type 0 where
   pub named : Named (requirementOf kind id)
   pub counted : listCount w (keyAt kind id) ≡ count
   pub lists≤ : listCount w (keyAt kind id) ≤ n
   pub cells≤ : length (joined (tableOf w kind id)) ≤ m
 
-pub done-copies : (w : List ℕ) (kind id n m count sum : ℕ) → copyIn w kind id n m ≡ Done count sum → Copies w kind id n m count sum
+pub done-copies : (w : List ℕ) (kind id n m count sum : ℕ) → copyIn w kind id n m ≡ Done count sum → Copies w kind id n m count
 unfolding copyIn
 done-copies w kind id n m count sum e =
     let c = listCount w (keyAt kind id) in
@@ -199,14 +193,14 @@ module _ (w : List ℕ) (kind id : ℕ) (lengths cells : List ℕ) where
   refused-leaves-cells k e = rw e
 
   module _ (count sum : ℕ) (e : answer ≡ Done count sum) where
-    facts : Copies w kind id (length lengths) (length cells) count sum
+    facts : Copies w kind id (length lengths) (length cells) count
     facts = done-copies w kind id (length lengths) (length cells) count sum e
 
-    pub done-lengths : (r : Requirement) (k : ℕ) → r ≡ requirementOf kind id → k ≡ count → copyInLengths w kind id lengths cells ≡ putRun (record { base = 0; size = length lengths }) 0 (lens (listsFrom w (firstSlot (keyOf r)) k)) lengths
+    pub done-lengths : (r : Requirement) (k : ℕ) → r ≡ requirementOf kind id → k ≡ count → copyInLengths w kind id lengths cells ≡ putRun (record { base = 0; size = length lengths }) 0 (lengthsOf (listsFrom w (firstSlot (keyOf r)) k)) lengths
     unfolding copyInLengths
     done-lengths r k q z =
-        let h : length (lens (tableOf w kind id)) ≤ length lengths = rw (length-lens (tableOf w kind id), length-from w (firstSlot (keyAt kind id)) (listCount w (keyAt kind id))) (facts .lists≤) in
-        rw (e, q, z, ← facts .counted) (sym (run-over (length lengths) (lens (tableOf w kind id)) lengths h))
+        let h : length (lengthsOf (tableOf w kind id)) ≤ length lengths = rw (length-lengths (tableOf w kind id), length-from w (firstSlot (keyAt kind id)) (listCount w (keyAt kind id))) (facts .lists≤) in
+        rw (e, q, z, ← facts .counted) (sym (run-over (length lengths) (lengthsOf (tableOf w kind id)) lengths h))
 
     pub done-cells : (r : Requirement) (k : ℕ) → r ≡ requirementOf kind id → k ≡ count → copyInCells w kind id lengths cells ≡ putRun (record { base = 0; size = length cells }) 0 (joined (listsFrom w (firstSlot (keyOf r)) k)) cells
     unfolding copyInCells

@@ -13,8 +13,7 @@ use Rattle.requirement.proofs.Holding.{Held, table-size, table-kept, ta
 use Rattle.requirement.proofs.ListLaws.{total-prefix, NoneOf}
 use Rattle.requirement.proofs.Loading.{slots-fit, Taken, done-taken, done-roomy, done-leaves, refused-leaves}
 use Rattle.requirement.proofs.Spans.{lies-of, lies-facts, lies-wider, single-lies, union-lies, singles-of, unions-of}
-use Rattle.requirement.proofs.Views.{cells-kept, lists-kept, lists-are, listed-sets, lens-cut, joined-cut}
-use Rattle.requirement.specs.Copy.{lens, joined}
+use Rattle.requirement.proofs.Views.{cells-kept, lists-kept, lists-are, listed-sets}
 use Rattle.requirement.specs.Load.{total, cut, known, loadIn, Roomy, tableAt, loadedSingle, loadedUnion, loaded, loadInStore}
 use Rattle.requirement.specs.Tables.{keyOf, requirementOf, keyAt, firstSlot, setCount, listCount, listsOf}
 use Rattle.store.proofs.AreaLaws.{at-put-same, area-kept, at-kept, within, apart-inside}
@@ -24,7 +23,6 @@ use Rattle.store.specs.Area.{Area, area, at, put, apart}
 use Rattle.store.specs.Layout.{mirrorLength, syncFloor, propagated, trailLength, map, setNames, unionSizes, tablesLoaded, listStarts, listLengths, singleCells, unionCells, candidates, disjunctionStarts, disjunctionSizes, nodeLefts, nodeRights, region, tablesRegion}
 use Rattle.store.specs.Limits.{versionSets, unions, unionRoom, cellRoom, disjunctions, requirements, unionLists, lists, lastVariable, mostUnionSize}
 use Rattle.store.specs.Shape.{every, upTo, lies, unionsFrom, Ranged, Sound}
-use Rattle.requirement.specs.declared.Requirement.{Requirement}
 use Rattle.requirement.specs.declared.Requirement.the-variants.{Single, Union}
 use Rattle.requirement.specs.declared.Loaded.{Loaded}
 use Rattle.requirement.specs.declared.Loaded.the-variants.{Done, Refused}
@@ -329,10 +327,3 @@ module _ (w : List ℕ) (kind id : ℕ) (lengths cells : List ℕ) (sound : Soun
         (λ h r c n. held-others w id (at singleCells 0 w) lengths cells sound r (omega arith) (single-before w id lengths cells sound r) (loadedSingle w id lengths cells) (single-held w id lengths cells sound r) c other m n)
         (λ r c n. held-others w (versionSets + id) (unionsFrom w - length cells) lengths cells sound r (union-behind w id lengths cells sound r) (union-before w id lengths cells sound r) (loadedUnion w id lengths cells) (union-held w id lengths cells sound r) c other m n)
         n)
-
-    -- copied out, the table is as loaded
-    pub loaded-cells : joined (listsOf (loadInStore w kind id lengths cells) (keyAt kind id)) ≡ cells
-    loaded-cells = rw loaded-lists (joined-cut lengths cells (done-roomy w kind id lengths cells sound done .sum))
-
-    pub loaded-lengths : lens (listsOf (loadInStore w kind id lengths cells) (keyAt kind id)) ≡ lengths
-    loaded-lengths = rw loaded-lists (lens-cut lengths cells (done-roomy w kind id lengths cells sound done .sum))

@@ -4,7 +4,7 @@ use mathlib.Core.Path.{_≡_, refl, sym, _∙_}
 use Prim.Native.Nat.{ℕ, _+_, _-_, _≤_, _<_}
 use native.Mathlib.Omega.{arith}
 use lib.ListN.{length, getD, take, drop, length-take, length-drop}
-use lib.Seq.{getD-take, getD-drop, take-take, ext-getD, length-take-le}
+use lib.Seq.{getD-take, getD-drop, ext-getD, length-take-le}
 
 -- a part of a list, place by place
 pub same-run : (n st : ℕ) (a b : List ℕ) → length a ≡ length b → ((i : ℕ) → i < n → getD a (st + i) 0 ≡ getD b (st + i) 0) → take n (drop st a) ≡ take n (drop st b)
@@ -22,7 +22,7 @@ run-is n st a b h k f =
     let m : i < n = omega arith in
     getD-take n (drop st a) i 0 m ∙ getD-drop st a i 0 ∙ f i m ∙ sym (getD-take n b i 0 m))
 
--- what a part of a part is
+-- a list cut at both ends
 pub drop-take : (m n : ℕ) (l : List ℕ) → drop m (take n l) ≡ take (n - m) (drop m l)
 drop-take m n l =
     ext-getD 0 (drop m (take n l)) (take (n - m) (drop m l)) (simp (length-take, length-drop) (omega arith))
@@ -31,6 +31,3 @@ drop-take m n l =
     getD-drop m (take n l) i 0
     ∙ getD-take n l (m + i) 0 k
     ∙ sym (getD-take (n - m) (drop m l) i 0 (omega arith) ∙ getD-drop m l i 0))
-
-pub take-within : (n m st : ℕ) (l : List ℕ) → st + n ≤ m → take n (drop st (take m l)) ≡ take n (drop st l)
-take-within n m st l h = rw (drop-take st m l) (take-take n (m - st) (drop st l) (omega arith))

@@ -15,9 +15,7 @@ use Rattle.store.specs.Area.{at}
 use Rattle.store.specs.Layout.{setNames, unionSizes, tablesLoaded, singleCells, unionCells}
 use Rattle.store.specs.Limits.{versionSets, unions, unionRoom, cellRoom, requirements, lists, lastVariable, mostUnionSize}
 use Rattle.store.specs.Shape.{every, upTo, Ranged, Sound}
-use Rattle.requirement.specs.declared.Requirement.{Requirement}
 use Rattle.requirement.specs.declared.Requirement.the-variants.{Single, Union}
-use Rattle.requirement.specs.declared.Loaded.{Loaded}
 use Rattle.requirement.specs.declared.Loaded.the-variants.{Done, Refused}
 
 refused-done : (n : ℕ) → Refused n ≡ Done → ⊥

@@ -10,11 +10,11 @@ use lib.Dec.{T, eqb, le→leb, leb→le}
 use lib.ListN.{length, take, drop, length-drop}
 use lib.Seq.{take-take, drop-drop, length-take-le}
 use Rattle.requirement.proofs.Spans.{lies-facts, single-lies, union-lies}
-use Rattle.requirement.proofs.ListParts.{drop-take, take-within}
+use Rattle.requirement.proofs.ListParts.{drop-take}
 use Rattle.requirement.proofs.Views.{listed-sets}
 use Rattle.requirement.specs.Part.{areaOf, inPart, partOf, Named, singleArea, unionArea, areaFrom, areaTo, placeOf}
 use Rattle.requirement.specs.Tables.{keyOf, firstSlot, setCount, listCount, cellsOf}
-use Rattle.store.proofs.AreaLaws.{length-area}
+use Rattle.store.proofs.AreaLaws.{length-area, part-of-take}
 use Rattle.store.proofs.Choice.{eq-or}
 use Rattle.store.specs.Area.{area, at}
 use Rattle.store.specs.Layout.{unionSizes, listStarts, listLengths, singleCells, unionCells, candidates}
@@ -119,6 +119,6 @@ module _ (w : List ℕ) (slot : ℕ) (sound : Sound w) where
       let sc = at singleCells 0 w in
       let st = at listStarts slot w in
       let n = at listLengths slot w in
-      take-within n sc (placeIn 0 st n) (area candidates w) (omega (arith, place-fits 0 sc st n (l .lying)))
+      part-of-take (placeIn 0 st n) n sc (area candidates w) (omega (arith, place-fits 0 sc st n (l .lying)))
       ∙ place-run 0 sc st n (area candidates w) (l .lying)
   part-cells (Union u) l = place-run (unionsFrom w) cellRoom (at listStarts slot w) (at listLengths slot w) (area candidates w) (l .lying)

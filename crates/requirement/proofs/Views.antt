@@ -7,10 +7,9 @@ use native.Mathlib.Nat.{add-zero}
 use native.Mathlib.Omega.{arith}
 use borrow.Author.Tests.{ltb-true}
 use lib.Dec.{ltb, eqb}
-use lib.ListN.{length, getD, take, drop, take-append-drop, length-drop}
-use lib.Seq.{getD-drop, length-take-le}
+use lib.ListN.{length, getD, take, drop, length-drop}
+use lib.Seq.{getD-drop}
 use Rattle.requirement.proofs.ListParts.{same-run, run-is}
-use Rattle.requirement.specs.Copy.{lens, joined}
 use Rattle.requirement.specs.Load.{total, cut}
 use Rattle.requirement.specs.Tables.{setCount, listCount, setOf, cellsOf, listsFrom}
 use Rattle.store.proofs.AreaLaws.{length-area}
@@ -20,7 +19,7 @@ use Rattle.store.specs.Limits.{versionSets, cellRoom, lastVersionSet}
 use Rattle.store.specs.Shape.{Sound}
 
 -- the cells of a list, place by place
-pub cells-are : (s : List ℕ) (slot n place : ℕ) (cs : List ℕ) → words ≤ length s → n ≤ length cs → place + n ≤ cellRoom → at listStarts slot s ≡ place → at listLengths slot s ≡ n → ((i : ℕ) → i < n → at candidates (place + i) s ≡ getD cs i 0) → cellsOf s slot ≡ take n cs
+cells-are : (s : List ℕ) (slot n place : ℕ) (cs : List ℕ) → words ≤ length s → n ≤ length cs → place + n ≤ cellRoom → at listStarts slot s ≡ place → at listLengths slot s ≡ n → ((i : ℕ) → i < n → at candidates (place + i) s ≡ getD cs i 0) → cellsOf s slot ≡ take n cs
 unfolding cellsOf at
 cells-are s slot n place cs long k room e f h = rw (e, f) (run-is n place (area candidates s) cs k (rw (length-area candidates s (omega arith)) room) h)
 
@@ -71,23 +70,6 @@ listed-sets w key j h = go (eqb (at tablesLoaded key w) 0) h
     go : (b : Bool) → j < cond b 0 (setCount w key) → j < setCount w key
     go true h = absurd (omega arith)
     go false h = h
-
--- a cut has the lengths that it was made by, and all of the cells
-pub lens-cut : (ls cs : List ℕ) → total ls ≡ length cs → lens (cut ls cs) ≡ ls
-unfolding lens cut total
-lens-cut [] cs e = refl
-lens-cut (n ∷ ns) cs e =
-    let a = length-take-le n cs (omega arith) in
-    let b = lens-cut ns (drop n cs) (rw (length-drop n cs) (omega arith)) in
-    rw (a, b)
-
-pub joined-cut : (ls cs : List ℕ) → total ls ≡ length cs → joined (cut ls cs) ≡ cs
-unfolding joined cut total
-joined-cut [] [] e = refl
-joined-cut [] (c ∷ cs) e = absurd (omega arith)
-joined-cut (n ∷ ns) cs e =
-    let b = joined-cut ns (drop n cs) (rw (length-drop n cs) (omega arith)) in
-    rw b (take-append-drop n cs)
 
 -- the version set of a list is one, on a store of sound shape
 pub set-below : (w : List ℕ) (slot x : ℕ) → Sound w → x ≡ setOf w slot → x < versionSets

@@ -1,4 +1,4 @@
--- Taking a candidate table into the store: "list j is the next lengths[j] cells; the lengths must add up to exactly the cells lent".
+-- Taking a candidate table into the store: list j is the next lengths[j] cells, and the lengths add up to exactly the cells lent.
 use mathlib.Core.Bool.{Bool, not, cond, _&&_}
 use mathlib.Core.List.{List, [], _∷_}
 use mathlib.Core.Path.{_≡_}
@@ -13,7 +13,7 @@ use Rattle.store.specs.Shape.{every, upTo, unionsFrom, soundShape}
 use Rattle.requirement.specs.declared.Loaded.{Loaded}
 use Rattle.requirement.specs.declared.Loaded.the-variants.{Done, Refused}
 
--- "the lengths must add up to exactly the cells lent"
+-- lengths add up to exactly n
 unfoldable pub adds : List ℕ → ℕ → Bool
 adds [] n = eqb n 0
 adds (x ∷ xs) n = leb x n && adds xs (n - x)
@@ -23,7 +23,7 @@ unfoldable pub total : List ℕ → ℕ
 total [] = 0
 total (x ∷ xs) = x + total xs
 
--- "list j is the next lengths[j] cells"
+-- list j is the next lengths[j] cells
 unfoldable pub cut : List ℕ → List ℕ → List (List ℕ)
 cut [] cells = []
 cut (n ∷ ns) cells = take n cells ∷ cut ns (drop n cells)
@@ -35,7 +35,7 @@ known w kind id =
     (ltb id versionSets && not (eqb (at setNames id w) 0))
     (eqb kind 1 && ltb id unions && not (eqb (at unionSizes id w) 0))
 
--- "an id or a cell range is out of range, or names something not loaded; a kind number is unknown"
+-- not 2: "an id or a cell range is out of range, or names something not loaded; a value, sign, mode or kind number is unknown"
 unfoldable pub fitting : List ℕ → ℕ → ℕ → List ℕ → List ℕ → Bool
 fitting w kind id lengths cells = known w kind id && adds lengths (length cells) && every (upTo lastVariable) cells
 
@@ -75,6 +75,7 @@ unfoldable pub loadedUnion : List ℕ → ℕ → List ℕ → List ℕ → List
 loadedUnion w u lengths cells =
     put unionCells 0 (at unionCells 0 w + length cells) (tableAt (versionSets + u) (unionsFrom w - length cells) lengths cells w)
 
+-- the words with a table more, of either kind
 unfoldable pub loaded : List ℕ → ℕ → ℕ → List ℕ → List ℕ → List ℕ
 loaded w kind id lengths cells = cond (eqb kind 0) (loadedSingle w id lengths cells) (loadedUnion w id lengths cells)
 
@@ -83,6 +84,7 @@ abbrev pub loadLeft : Loaded → List ℕ → ℕ → ℕ → List ℕ → List 
 loadLeft Done w kind id lengths cells = loaded w kind id lengths cells
 loadLeft (Refused n) w kind id lengths cells = w
 
+-- the words that loading leaves, on a store of sound shape
 unfoldable pub loadInStore : List ℕ → ℕ → ℕ → List ℕ → List ℕ → List ℕ
 loadInStore w kind id lengths cells = loadLeft (loadIn w kind id lengths cells) w kind id lengths cells
 
@@ -90,6 +92,7 @@ loadInStore w kind id lengths cells = loadLeft (loadIn w kind id lengths cells) 
 unfoldable pub loadOut : List ℕ → ℕ → ℕ → List ℕ → List ℕ → Loaded
 loadOut w kind id lengths cells = cond (soundShape w) (loadIn w kind id lengths cells) (Refused 1)
 
+-- "Each refusal but 8 changes no word of the store"
 unfoldable pub loadStore : List ℕ → ℕ → ℕ → List ℕ → List ℕ → List ℕ
 loadStore w kind id lengths cells = cond (soundShape w) (loadInStore w kind id lengths cells) w
 

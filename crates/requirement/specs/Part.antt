@@ -20,6 +20,7 @@ areaOf (Union u) below above = above
 abbrev pub inPart : Requirement → List ℕ → List ℕ → ℕ → ℕ → Bool
 inPart r below above start len = leb (start + len) (length (areaOf r below above))
 
+-- "handed back as a part of that area"
 abbrev pub partOf : Requirement → List ℕ → List ℕ → ℕ → ℕ → List ℕ
 partOf r below above start len = take len (drop start (areaOf r below above))
 
@@ -28,18 +29,20 @@ abbrev pub Named : Requirement → Type 0
 Named (Single v) = v < versionSets
 Named (Union u) = u < unions
 
--- the two areas of a store: singles have the cells from below, unions those from above
+-- the cells of the singles, from below
 unfoldable pub singleArea : List ℕ → List ℕ
 singleArea w = take (at singleCells 0 w) (area candidates w)
 
+-- those of the unions, up to the last
 unfoldable pub unionArea : List ℕ → List ℕ
 unionArea w = drop (unionsFrom w) (area candidates w)
 
--- where the area of a requirement begins and ends among the cells
+-- where the area of a requirement begins among the cells
 abbrev pub areaFrom : List ℕ → Requirement → ℕ
 areaFrom w (Single v) = 0
 areaFrom w (Union u) = unionsFrom w
 
+-- where it ends
 abbrev pub areaTo : List ℕ → Requirement → ℕ
 areaTo w (Single v) = at singleCells 0 w
 areaTo w (Union u) = cellRoom

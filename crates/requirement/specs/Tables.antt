@@ -15,10 +15,11 @@ abbrev pub keyOf : Requirement → ℕ
 keyOf (Single v) = v
 keyOf (Union u) = versionSets + u
 
--- the requirement of two numbers: "`kind` of a requirement: 0 single, 1 union"
+-- the requirement of two numbers: kind 0 is a single, 1 a union
 unfoldable pub requirementOf : ℕ → ℕ → Requirement
 requirementOf kind id = cond (eqb kind 0) (Single id) (Union id)
 
+-- the key of two numbers
 abbrev pub keyAt : ℕ → ℕ → ℕ
 keyAt kind id = keyOf (requirementOf kind id)
 

@@ -1,4 +1,4 @@
-// The calls on the candidate tables of a store of sound shape. The layers above, which have tested the shape, call these.
+// The calls on the candidate tables of a store of sound shape. The crate's public calls test the shape and then call these.
 ghost use mathlib.Core.Bool.{true};
 ghost use mathlib.Core.Path.{_≡_};
 ghost use Prim.Native.Nat.{_+_, _≤_, _<_};
@@ -6,9 +6,10 @@ ghost use lib.Dec.{T};
 ghost use lib.ListN.{length};
 ghost use Rattle.store.specs.Area.{at, putRun};
 ghost use Rattle.store.specs.Layout.{words, listStarts, listLengths};
+ghost use Rattle.store.specs.Lent.{lengthsOf, joined};
 ghost use Rattle.store.specs.Limits.{versionSets, requirements, lists, cellRoom};
 ghost use Rattle.store.specs.Shape.{lies, Sound};
-ghost use Rattle.requirement.specs.Copy.{tabled, lens, joined, copyIn, copyInLengths, copyInCells};
+ghost use Rattle.requirement.specs.Copy.{tabled, copyIn, copyInLengths, copyInCells};
 ghost use Rattle.requirement.specs.Load.{adds, total, known, fitting, Roomy, loadIn, putLists, tableAt, loadedSingle, loadedUnion, loaded, loadInStore};
 ghost use Rattle.requirement.specs.Part.{inPart, partOf, Named, singleArea, unionArea, areaFrom, areaTo, placeOf};
 ghost use Rattle.requirement.specs.Tables.{requirementOf, keyOf, keyAt, firstSlot, setCount, setOf, nameOf, listCount, cellsOf, listsFrom};
@@ -105,7 +106,7 @@ pub fn set_count(s: &[u32], key: usize) -> usize
 }
 
 // The version set of a list.
-pub fn set_at(s: &[u32], slot: usize) -> usize
+fn set_at(s: &[u32], slot: usize) -> usize
     requires { ⌜ (words ≤ length (now s)) × (slot < lists) ⌝ }
     ensures { λ r. ⌜ r ≡ setOf (now (s .entry)) slot ⌝ }
 {
@@ -346,7 +347,7 @@ fn cell_count(s: &[u32], r: Requirement, n: usize) -> usize
 // Copies the lengths of its first n lists, one after the other.
 fn copy_lengths(s: &[u32], r: Requirement, n: usize, lengths: &mut [u32])
     requires { ⌜ (Sound (now s)) × (Named r) × (n ≤ listCount (now s) (keyOf r)) × (n ≤ length (now lengths)) ⌝ }
-    ensures { λ _. ⌜ now (lengths .exit) ≡ putRun (record { base = 0; size = length (now (lengths .entry)) }) 0 (lens (listsFrom (now (s .entry)) (firstSlot (keyOf r)) n)) (now (lengths .entry)) ⌝ }
+    ensures { λ _. ⌜ now (lengths .exit) ≡ putRun (record { base = 0; size = length (now (lengths .entry)) }) 0 (lengthsOf (listsFrom (now (s .entry)) (firstSlot (keyOf r)) n)) (now (lengths .entry)) ⌝ }
 {
     let mut j: usize = 0;
     while j < n {

@@ -1,5 +1,5 @@
 -- What writes in the tables' region leave: every area apart from it, and the sound shape. Assumes nothing.
-use mathlib.Core.Bool.{Bool, true, false, cond}
+use mathlib.Core.Bool.{Bool, true}
 use mathlib.Core.List.{List, [], _∷_}
 use mathlib.Core.Logic.{⊎-elim}
 use mathlib.Core.Path.{_≡_, refl, _∙_}
@@ -122,8 +122,3 @@ every-weaker p q f [] e = refl
 every-weaker p q f (x ∷ xs) e =
     let b = both (p x) (every p xs) e in
     rw (f x (b .0)) (every-weaker p q f xs (b .1))
-
--- what holds of both arms holds of the choice
-pub cond-either : {A : Type 0} (P : A → Type 0) (b : Bool) (x y : A) → (b ≡ true → P x) → (b ≡ false → P y) → P (cond b x y)
-cond-either P true x y f g = f refl
-cond-either P false x y f g = g refl

@@ -1,27 +1,17 @@
--- What the answers of loading a condition node say, and what its code reads. Assumes nothing.
+-- What the answers of loading a condition node say. Assumes nothing.
 use mathlib.Core.Bool.{false, not, cond, _||_}
 use mathlib.Core.List.{List}
-use mathlib.Core.Path.{_≡_, sym}
+use mathlib.Core.Path.{_≡_}
 use Prim.Native.Nat.{ℕ, _≤_, _<_}
 use borrow.Author.Tests.{ltb-false, leb-false, not-false, eq-eqb, ne-eqb}
 use lib.Dec.{leb, ltb, eqb}
-use Rattle.store.proofs.AreaLaws.{at-past}
 use Rattle.store.proofs.Choice.{neither}
-use Rattle.store.specs.Area.{at}
-use Rattle.store.specs.Layout.{setNames, nodeKinds, nodeLefts}
+use Rattle.store.specs.Layout.{setNames}
 use Rattle.store.specs.Limits.{versionSets, nodes}
 use Rattle.tables.proofs.Loading.{loaded-small, passed}
-use Rattle.tables.specs.Condition.{nodeLoaded, nodeAs, nodeOf, leafIn, branchIn, loadConditionIn}
+use Rattle.tables.specs.Condition.{nodeLoaded, leafIn, branchIn, loadConditionIn}
 use Rattle.tables.specs.VersionSet.{setLoaded}
-use Rattle.tables.specs.declared.Loaded.{Loaded}
-use Rattle.tables.specs.declared.Loaded.the-variants.{Done, Refused}
-use Rattle.tables.specs.declared.Node.{Node}
-use Rattle.tables.specs.declared.Node.the-variants.{Missing, Leaf, And, Or}
-
--- a node out of range is missing
-pub past-missing : (w : List ℕ) (k : ℕ) → nodes ≤ k → Missing ≡ nodeOf w k
-unfolding nodeOf nodeAs
-past-missing w k h = sym (rw (at-past nodeKinds k w h, at-past nodeLefts k w h))
+use Rattle.tables.specs.declared.Loaded.the-variants.{Done}
 
 -- "done" is answered only in range
 pub record LeafFits (node versionSet : ℕ) : Type 0 where
@@ -33,14 +23,14 @@ pub record BranchFits (node left right : ℕ) : Type 0 where
   pub left< : left < node
   pub right< : right < node
 
-pub leaf-fits : (w : List ℕ) (node versionSet : ℕ) → leafIn w node versionSet ≡ Done → LeafFits node versionSet
+leaf-fits : (w : List ℕ) (node versionSet : ℕ) → leafIn w node versionSet ≡ Done → LeafFits node versionSet
 unfolding leafIn
 leaf-fits w node versionSet e =
     let a = passed (leb nodes node || not (setLoaded w versionSet)) _ _ e in
     let b = neither (leb nodes node) (not (setLoaded w versionSet)) (a .0) in
     record { node< = leb-false _ _ (b .0); versionSet< = loaded-small setNames w versionSet (not-false _ (b .1)) }
 
-pub branch-fits : (w : List ℕ) (node left right : ℕ) → branchIn w node left right ≡ Done → BranchFits node left right
+branch-fits : (w : List ℕ) (node left right : ℕ) → branchIn w node left right ≡ Done → BranchFits node left right
 unfolding branchIn
 branch-fits w node left right e =
     let t = leb nodes node || not (nodeLoaded w left) in

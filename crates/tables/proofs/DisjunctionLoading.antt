@@ -14,8 +14,7 @@ use Rattle.store.specs.Limits.{disjunctions, literalRoom, lastVariable}
 use Rattle.store.specs.Shape.{every, upTo}
 use Rattle.tables.proofs.Loading.{passed}
 use Rattle.tables.specs.Disjunction.{disjunctionLoaded, literalsFit, loadDisjunctionIn}
-use Rattle.tables.specs.declared.Loaded.{Loaded}
-use Rattle.tables.specs.declared.Loaded.the-variants.{Done, Refused}
+use Rattle.tables.specs.declared.Loaded.the-variants.{Done}
 
 -- "done" is answered only in range, and where there is room
 pub record LiteralsFit (w : List ℕ) (disjunction : ℕ) (vs signs : List ℕ) : Type 0 where

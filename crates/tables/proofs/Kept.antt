@@ -13,6 +13,7 @@ use Rattle.store.proofs.Choice.{both, is-true, eq-or}
 use Rattle.store.proofs.Runs.{length-run, area-run-kept, ranged-run}
 use Rattle.store.proofs.Soundness.{ranged-put}
 use Rattle.store.specs.Area.{Area, area, at, put, putRun, puts, apart, Inside, clearOf}
+use Rattle.store.specs.Codes.{leafKind, orKind}
 use Rattle.store.specs.Layout.{setNames, unionSizes, unionSets, disjunctionStarts, disjunctionSizes, literalCount, literalVariables, literalSigns, nodeKinds, nodeSets, nodeLefts, nodeRights, tablesRegion}
 use Rattle.store.specs.Limits.{names, unionRoom, disjunctions, literalRoom, nodes, lastVariable, lastVersionSet, mostUnionSize, mostDisjunctionSize}
 use Rattle.store.specs.Shape.{every, upTo, Sound}
@@ -26,8 +27,6 @@ use Rattle.tables.specs.Condition.{leafWrites, branchWrites, leafed, bra
 use Rattle.tables.specs.Disjunction.{spanWrites, literalsPut, loadDisjunctionInStore}
 use Rattle.tables.specs.Union.{membersPut, loadUnionInStore}
 use Rattle.tables.specs.VersionSet.{setLoaded, named, loadVersionSetInStore}
-use Rattle.tables.specs.declared.Loaded.{Loaded}
-use Rattle.tables.specs.declared.Loaded.the-variants.{Done, Refused}
 
 -- loading a version set
 module _ (w : List ℕ) (versionSet name : ℕ) where
@@ -108,15 +107,15 @@ module _ (w : List ℕ) (node : ℕ) where
     leafed-beside : Beside (leafed w node versionSet) w
     unfolding leafed
     leafed-beside =
-        beside-put nodeSets node versionSet (put nodeKinds node 1 w) w tt (f .node<)
-        (beside-put nodeKinds node 1 w w tt (f .node<) (beside-none w))
+        beside-put nodeSets node versionSet (put nodeKinds node leafKind w) w tt (f .node<)
+        (beside-put nodeKinds node leafKind w w tt (f .node<) (beside-none w))
 
     leafed-sound : Sound w → Sound (leafed w node versionSet)
     unfolding leafed
     leafed-sound h =
         sound-beside s w h leafed-beside (length-puts (leafWrites node versionSet) w)
-        (ranged-put nodeSets lastVersionSet node versionSet (put nodeKinds node 1 w) tt (f .node<) (omega (arith, f .versionSet<))
-        (ranged-put nodeKinds 3 node 1 w tt (f .node<) (omega arith) (h .ranges)))
+        (ranged-put nodeSets lastVersionSet node versionSet (put nodeKinds node leafKind w) tt (f .node<) (omega (arith, f .versionSet<))
+        (ranged-put nodeKinds orKind node leafKind w tt (f .node<) (omega arith) (h .ranges)))
         (tabled-kept s w (h .tables) (still cellTables tt) (still disjunctionStarts tt) (still disjunctionSizes tt) (still nodeLefts tt) (still nodeRights tt))
       where
         s : List ℕ
@@ -148,7 +147,7 @@ module _ (w : List ℕ) (node : ℕ) where
         sound-beside s w h branched-beside (length-puts (branchWrites node kind left right) w)
         (ranged-put nodeRights nodes node (right + 1) lefted tt (f .node<) (omega (arith, f .right<, f .node<))
         (ranged-put nodeLefts nodes node (left + 1) kinded tt (f .node<) (omega (arith, f .left<, f .node<))
-        (ranged-put nodeKinds 3 node (kind + 1) w tt (f .node<) (omega arith) (h .ranges))))
+        (ranged-put nodeKinds orKind node (kind + 1) w tt (f .node<) (omega arith) (h .ranges))))
         (tabled-of s w (h .tables) (still cellTables tt)
         (spanned-kept s w (still disjunctionStarts tt) (still disjunctionSizes tt) (h .tables .disjunctions))
         (falling-kept s lefted nodeLefts (area-kept nodeLefts nodeRights node (right + 1) lefted tt (f .node<))

@@ -26,7 +26,7 @@ module _ (a : Area) (w : List ℕ) (i : ℕ) where
   unfolding loaded
   past-unloaded h = sym (rw (at-past a i w h))
 
-pub refused-done : (n : ℕ) → Refused n ≡ Done → ⊥
+refused-done : (n : ℕ) → Refused n ≡ Done → ⊥
 refused-done n e = let z : _≡_ {A = ℕ} 0 1 = cc in omega arith
 
 -- a refusal that is not given

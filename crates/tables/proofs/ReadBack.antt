@@ -1,14 +1,15 @@
 -- WHAT IS LOADED READS BACK: after "done" the store holds what the call was given. Assumes nothing.
 use mathlib.Core.List.{List, [], _∷_}
-use mathlib.Core.Path.{_≡_, refl, ap, _∙_}
+use mathlib.Core.Path.{_≡_, ap, subst, _∙_}
 use Prim.Native.Nat.{ℕ, _+_, _-_, _*_, _≤_, _<_}
 use native.Mathlib.Omega.{arith}
 use borrow.Author.Tests.{eq-eqb, ne-eqb}
 use lib.Dec.{T}
 use lib.ListN.{length, getD}
-use Rattle.store.proofs.AreaLaws.{length-put, at-put-same, length-puts, at-puts, at-written}
+use Rattle.store.proofs.AreaLaws.{length-put, at-put-same, length-puts, at-written}
 use Rattle.store.proofs.Runs.{length-run, at-run-kept, at-run}
 use Rattle.store.specs.Area.{Area, at, put, putRun, puts, write, apart}
+use Rattle.store.specs.Codes.{leafKind, andKind, orKind}
 use Rattle.store.specs.Layout.{setNames, unionSizes, unionSets, disjunctionStarts, disjunctionSizes, literalCount, literalVariables, literalSigns, nodeKinds, nodeSets, nodeLefts, nodeRights, words}
 use Rattle.store.specs.Limits.{unionRoom, nodes}
 use Rattle.store.specs.Shape.{Sound}
@@ -17,15 +18,12 @@ use Rattle.tables.proofs.DisjunctionLoading.{LiteralsFit, literals-fit}
 use Rattle.tables.proofs.Loading.{done-leaves}
 use Rattle.tables.proofs.SetLoading.{set-fits}
 use Rattle.tables.proofs.UnionLoading.{UnionFits, union-fits}
-use Rattle.tables.specs.Condition.{nodeAs, nodeOf, loadConditionIn, leafWrites, branchWrites, leafed, branched, nodePut, loadConditionInStore}
+use Rattle.tables.specs.Condition.{loadConditionIn, leafed, branched, nodePut, loadConditionInStore}
 use Rattle.tables.specs.Disjunction.{literalsOf, loadDisjunctionIn, spanWrites, literalsPut, loadDisjunctionInStore}
 use Rattle.tables.specs.Union.{loadUnionIn, membersPut, loadUnionInStore}
 use Rattle.tables.specs.VersionSet.{loadVersionSetIn, named, loadVersionSetInStore}
-use Rattle.tables.specs.declared.Loaded.{Loaded}
-use Rattle.tables.specs.declared.Loaded.the-variants.{Done, Refused}
+use Rattle.tables.specs.declared.Loaded.the-variants.{Done}
 use Rattle.tables.specs.declared.Literals.{Literals}
-use Rattle.tables.specs.declared.Node.{Node}
-use Rattle.tables.specs.declared.Node.the-variants.{Missing, Leaf, And, Or}
 
 -- the name of a version set
 pub set-reads : (w : List ℕ) (versionSet name : ℕ) → Sound w → loadVersionSetIn w versionSet name ≡ Done → at setNames versionSet (loadVersionSetInStore w versionSet name) ≡ name + 1
@@ -58,67 +56,62 @@ module _ (w : List ℕ) (union : ℕ) (members : List ℕ) (h : Sound w) (e : lo
       ap (at unionSets (unionRoom * union + j)) (done-leaves _ (membersPut w union members) w e)
       ∙ at-run unionSets (unionRoom * union) members sized j (rw (length-put unionSizes union (length members + 1) w) (omega (arith, h .long))) inside l
 
--- a condition node
-node-is : (s : List ℕ) (k kind v l r : ℕ) → at nodeKinds k s ≡ kind → at nodeSets k s ≡ v → at nodeLefts k s ≡ l → at nodeRights k s ≡ r → nodeOf s k ≡ nodeAs kind v l r
-unfolding nodeOf
-node-is s k kind v l r a b c d = rw (a, b, c, d)
+-- a condition node: its kind, and the version set of a leaf or the children of a branch, each stored as one more than its number
+pub record LeafAt (s : List ℕ) (node versionSet : ℕ) : Type 0 where
+  pub kind-is : at nodeKinds node s ≡ leafKind
+  pub set-is : at nodeSets node s ≡ versionSet
 
-branch-is : (v l r : ℕ) → (nodeAs 2 v (l + 1) (r + 1) ≡ And l r) × (nodeAs 3 v (l + 1) (r + 1) ≡ Or l r)
-unfolding nodeAs
-branch-is v l r =
-    let a : l + 1 - 1 ≡ l = omega arith in
-    let b : r + 1 - 1 ≡ r = omega arith in
-    (rw (ne-eqb (l + 1) 0 (omega arith), ne-eqb (r + 1) 0 (omega arith), a, b), rw (ne-eqb (l + 1) 0 (omega arith), ne-eqb (r + 1) 0 (omega arith), a, b))
+pub record BranchAt (s : List ℕ) (node kind left right : ℕ) : Type 0 where
+  pub kind-is : at nodeKinds node s ≡ kind
+  pub left-is : at nodeLefts node s ≡ left + 1
+  pub right-is : at nodeRights node s ≡ right + 1
 
 module _ (w : List ℕ) (node : ℕ) (h : Sound w) where
   long : (a : Area) (i x : ℕ) (s : List ℕ) → words ≤ length s → words ≤ length (put a i x s)
   long a i x s l = rw (length-put a i x s) l
 
-  leafed-reads : (v : ℕ) → node < nodes → nodeOf (leafed w node v) node ≡ Leaf v
-  unfolding leafed nodeAs
+  leafed-reads : (v : ℕ) → node < nodes → LeafAt (leafed w node v) node v
+  unfolding leafed
   leafed-reads v n =
-      node-is (puts (leafWrites node v) w) node 1 v _ _
-      (at-written nodeKinds node 1 (write nodeSets node v ∷ []) w (omega (arith, h .long)) n tt (n, tt))
-      (at-put-same nodeSets node v (put nodeKinds node 1 w) n (omega (arith, long nodeKinds node 1 w (h .long))))
-      refl refl
+      record {
+        kind-is = at-written nodeKinds node leafKind (write nodeSets node v ∷ []) w (omega (arith, h .long)) n tt (n, tt);
+        set-is = at-put-same nodeSets node v (put nodeKinds node leafKind w) n (omega (arith, long nodeKinds node leafKind w (h .long)));
+      }
 
-  branched-reads : (kind l r : ℕ) → node < nodes → nodeOf (branched w node kind l r) node ≡ nodeAs (kind + 1) (at nodeSets node w) (l + 1) (r + 1)
+  branched-reads : (kind l r : ℕ) → node < nodes → BranchAt (branched w node kind l r) node (kind + 1) l r
   unfolding branched
   branched-reads kind l r n =
       let s = put nodeKinds node (kind + 1) w in
       let t = put nodeLefts node (l + 1) s in
       let a = long nodeKinds node (kind + 1) w (h .long) in
       let b = long nodeLefts node (l + 1) s a in
-      node-is (puts (branchWrites node kind l r) w) node (kind + 1) (at nodeSets node w) (l + 1) (r + 1)
-      (at-written nodeKinds node (kind + 1) (write nodeLefts node (l + 1) ∷ write nodeRights node (r + 1) ∷ []) w (omega (arith, h .long)) n tt (n, (n, tt)))
-      (at-puts nodeSets (branchWrites node kind l r) w node tt (n, (n, (n, tt))))
-      (at-written nodeLefts node (l + 1) (write nodeRights node (r + 1) ∷ []) s (omega (arith, a)) n tt (n, tt))
-      (at-put-same nodeRights node (r + 1) t n (omega (arith, b)))
+      record {
+        kind-is = at-written nodeKinds node (kind + 1) (write nodeLefts node (l + 1) ∷ write nodeRights node (r + 1) ∷ []) w (omega (arith, h .long)) n tt (n, (n, tt));
+        left-is = at-written nodeLefts node (l + 1) (write nodeRights node (r + 1) ∷ []) s (omega (arith, a)) n tt (n, tt);
+        right-is = at-put-same nodeRights node (r + 1) t n (omega (arith, b));
+      }
 
   module _ (kind left right : ℕ) (e : loadConditionIn w node kind left right ≡ Done) where
-    pub leaf-reads : kind ≡ 0 → nodeOf (loadConditionInStore w node kind left right) node ≡ Leaf left
+    abbrev stored : List ℕ
+    stored = loadConditionInStore w node kind left right
+
+    pub leaf-reads : kind ≡ 0 → LeafAt stored node left
     unfolding loadConditionInStore nodePut
     leaf-reads k =
         let n = done-leaf w node kind left right e k .node< in
         rw (done-leaves _ (nodePut w node kind left right) w e, eq-eqb kind 0 k) (leafed-reads left n)
 
-    branch-reads : (kind ≡ 0 → ⊥) → nodeOf (loadConditionInStore w node kind left right) node ≡ nodeAs (kind + 1) (at nodeSets node w) (left + 1) (right + 1)
+    branch-reads : (kind ≡ 0 → ⊥) → BranchAt stored node (kind + 1) left right
     unfolding loadConditionInStore nodePut
     branch-reads k =
         let n = done-branch w node kind left right e k .node< in
         rw (done-leaves _ (nodePut w node kind left right) w e, ne-eqb kind 0 k) (branched-reads kind left right n)
 
-    pub and-reads : kind ≡ 1 → nodeOf (loadConditionInStore w node kind left right) node ≡ And left right
-    and-reads k =
-        branch-reads (omega arith)
-        ∙ ap (λ n. nodeAs (n + 1) (at nodeSets node w) (left + 1) (right + 1)) k
-        ∙ branch-is (at nodeSets node w) left right .0
+    pub and-reads : kind ≡ 1 → BranchAt stored node andKind left right
+    and-reads k = subst (λ n. BranchAt stored node (n + 1) left right) k (branch-reads (omega arith))
 
-    pub or-reads : kind ≡ 2 → nodeOf (loadConditionInStore w node kind left right) node ≡ Or left right
-    or-reads k =
-        branch-reads (omega arith)
-        ∙ ap (λ n. nodeAs (n + 1) (at nodeSets node w) (left + 1) (right + 1)) k
-        ∙ branch-is (at nodeSets node w) left right .1
+    pub or-reads : kind ≡ 2 → BranchAt stored node orKind left right
+    or-reads k = subst (λ n. BranchAt stored node (n + 1) left right) k (branch-reads (omega arith))
 
 -- the literals of a disjunction
 module _ (w : List ℕ) (disjunction : ℕ) (vs signs : List ℕ) (h : Sound w) (e : loadDisjunctionIn w disjunction vs signs ≡ Done) where

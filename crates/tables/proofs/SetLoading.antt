@@ -9,8 +9,7 @@ use Rattle.store.proofs.Choice.{neither}
 use Rattle.store.specs.Limits.{names, versionSets}
 use Rattle.tables.proofs.Loading.{passed}
 use Rattle.tables.specs.VersionSet.{loadVersionSetIn}
-use Rattle.tables.specs.declared.Loaded.{Loaded}
-use Rattle.tables.specs.declared.Loaded.the-variants.{Done, Refused}
+use Rattle.tables.specs.declared.Loaded.the-variants.{Done}
 
 -- "done" is answered only in range
 pub record SetFits (versionSet name : ℕ) : Type 0 where

@@ -12,8 +12,7 @@ use Rattle.store.specs.Shape.{every}
 use Rattle.tables.proofs.Loading.{passed}
 use Rattle.tables.specs.Union.{unionLoaded, differ, distinct, loadUnionIn}
 use Rattle.tables.specs.VersionSet.{setLoaded}
-use Rattle.tables.specs.declared.Loaded.{Loaded}
-use Rattle.tables.specs.declared.Loaded.the-variants.{Done, Refused}
+use Rattle.tables.specs.declared.Loaded.the-variants.{Done}
 
 -- two places of a list
 module _ (l : List ℕ) (i j : ℕ) where
@@ -29,7 +28,6 @@ module _ (l : List ℕ) (i j : ℕ) where
 pub record UnionFits (w : List ℕ) (union : ℕ) (members : List ℕ) : Type 0 where
   pub union< : union < unions
   pub named : every (setLoaded w) members ≡ true
-  pub once : distinct members ≡ true
   pub room : length members ≤ unionRoom
 
 pub union-fits : (w : List ℕ) (union : ℕ) (members : List ℕ) → loadUnionIn w union members ≡ Done → UnionFits w union members
@@ -43,6 +41,5 @@ union-fits w union members e =
     record {
       union< = leb-false _ _ (f .0);
       named = not-false _ (f .1);
-      once = not-false _ (b .0);
       room = ltb-false _ _ (d .0);
     }

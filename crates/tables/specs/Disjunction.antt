@@ -25,8 +25,8 @@ literalsOf w disjunction = record { start = at disjunctionStarts disjunction w; 
 unfoldable pub literalsFit : List ℕ → List ℕ → Bool
 literalsFit vs signs = eqb (length vs) (length signs) && every (upTo lastVariable) vs && every (upTo 1) signs
 
--- on a store of sound shape: "an id is out of range" or "a sign is unknown" (2), "a disjunction is loaded twice" (12),
--- "a size above would be exceeded" (3)
+-- on a store of sound shape: its number or a variable is out of range, or a sign is unknown (2), it is loaded already (12), there is no
+-- room for its literals (3)
 unfoldable pub loadDisjunctionIn : List ℕ → ℕ → List ℕ → List ℕ → Loaded
 loadDisjunctionIn w disjunction vs signs =
     cond (leb disjunctions disjunction || not (literalsFit vs signs)) (Refused 2)
@@ -41,12 +41,14 @@ spanWrites w disjunction n =
     ∷ write literalCount 0 (at literalCount 0 w + n)
     ∷ []
 
+-- the words with a disjunction more
 unfoldable pub literalsPut : List ℕ → ℕ → List ℕ → List ℕ → List ℕ
 literalsPut w disjunction vs signs =
     putRun literalSigns (at literalCount 0 w) signs
     (putRun literalVariables (at literalCount 0 w) vs
     (puts (spanWrites w disjunction (length vs)) w))
 
+-- the words that loading leaves, on a store of sound shape
 unfoldable pub loadDisjunctionInStore : List ℕ → ℕ → List ℕ → List ℕ → List ℕ
 loadDisjunctionInStore w disjunction vs signs =
     leaves (loadDisjunctionIn w disjunction vs signs) (literalsPut w disjunction vs signs) w
@@ -55,5 +57,6 @@ loadDisjunctionInStore w disjunction vs signs =
 unfoldable pub loadDisjunctionOut : List ℕ → ℕ → List ℕ → List ℕ → Loaded
 loadDisjunctionOut w disjunction vs signs = cond (soundShape w) (loadDisjunctionIn w disjunction vs signs) (Refused 1)
 
+-- "Each refusal but 8 changes no word of the store"
 unfoldable pub loadDisjunctionStore : List ℕ → ℕ → List ℕ → List ℕ → List ℕ
 loadDisjunctionStore w disjunction vs signs = cond (soundShape w) (loadDisjunctionInStore w disjunction vs signs) w

@@ -30,8 +30,8 @@ newAt l i = allFrom (differ l i) 0 i
 unfoldable pub distinct : List ℕ → Bool
 distinct l = allFrom (newAt l) 0 (length l)
 
--- on a store of sound shape: "an id is out of range, or names something not loaded" (2), "malformed: a union naming a version set
--- twice" (11), "a union is loaded twice" (12), "a size above would be exceeded" (3)
+-- on a store of sound shape: its number is out of range or a member is not loaded (2), malformed is "a union naming a version set twice" (11),
+-- it is loaded already (12), it has more than eight members (3)
 unfoldable pub loadUnionIn : List ℕ → ℕ → List ℕ → Loaded
 loadUnionIn w union members =
     cond (leb unions union || not (every (setLoaded w) members)) (Refused 2)
@@ -43,6 +43,7 @@ loadUnionIn w union members =
 unfoldable pub membersPut : List ℕ → ℕ → List ℕ → List ℕ
 membersPut w union members = putRun unionSets (unionRoom * union) members (put unionSizes union (length members + 1) w)
 
+-- the words that loading leaves, on a store of sound shape
 unfoldable pub loadUnionInStore : List ℕ → ℕ → List ℕ → List ℕ
 loadUnionInStore w union members = leaves (loadUnionIn w union members) (membersPut w union members) w
 
@@ -50,5 +51,6 @@ loadUnionInStore w union members = leaves (loadUnionIn w union members) (members
 unfoldable pub loadUnionOut : List ℕ → ℕ → List ℕ → Loaded
 loadUnionOut w union members = cond (soundShape w) (loadUnionIn w union members) (Refused 1)
 
+-- "Each refusal but 8 changes no word of the store"
 unfoldable pub loadUnionStore : List ℕ → ℕ → List ℕ → List ℕ
 loadUnionStore w union members = cond (soundShape w) (loadUnionInStore w union members) w

@@ -15,7 +15,7 @@ use Rattle.tables.specs.declared.Loaded.the-variants.{Done, Refused}
 abbrev pub setLoaded : List ℕ → ℕ → Bool
 setLoaded w versionSet = loaded setNames w versionSet
 
--- on a store of sound shape: "an id is out of range" (2), "a version set is loaded twice" (12)
+-- on a store of sound shape: its number or its name is out of range (2), it is loaded already (12)
 unfoldable pub loadVersionSetIn : List ℕ → ℕ → ℕ → Loaded
 loadVersionSetIn w versionSet name =
     cond (leb versionSets versionSet || leb names name) (Refused 2)
@@ -25,6 +25,7 @@ loadVersionSetIn w versionSet name =
 abbrev pub named : List ℕ → ℕ → ℕ → List ℕ
 named w versionSet name = put setNames versionSet (name + 1) w
 
+-- the words that loading leaves, on a store of sound shape
 unfoldable pub loadVersionSetInStore : List ℕ → ℕ → ℕ → List ℕ
 loadVersionSetInStore w versionSet name = leaves (loadVersionSetIn w versionSet name) (named w versionSet name) w
 
@@ -32,5 +33,6 @@ loadVersionSetInStore w versionSet name = leaves (loadVersionSetIn w versionSet 
 unfoldable pub loadVersionSetOut : List ℕ → ℕ → ℕ → Loaded
 loadVersionSetOut w versionSet name = cond (soundShape w) (loadVersionSetIn w versionSet name) (Refused 1)
 
+-- "Each refusal but 8 changes no word of the store"
 unfoldable pub loadVersionSetStore : List ℕ → ℕ → ℕ → List ℕ
 loadVersionSetStore w versionSet name = cond (soundShape w) (loadVersionSetInStore w versionSet name) w

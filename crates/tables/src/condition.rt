@@ -1,22 +1,22 @@
-// Condition nodes in a store of sound shape. The layers above, which have tested the shape, call these.
+// Condition nodes in a store of sound shape. The crate's public calls test the shape and then call these.
 ghost use mathlib.Core.Path.{_≡_};
 ghost use Prim.Native.Nat.{_≤_, _<_};
 ghost use lib.ListN.{length};
 ghost use Rattle.store.specs.Layout.{words};
 ghost use Rattle.store.specs.Limits.{nodes, lastWord};
 ghost use Rattle.store.specs.Shape.{Sound};
-ghost use Rattle.tables.specs.Condition.{nodeLoaded, nodeAs, nodeOf, leafIn, branchIn, loadConditionIn, leafed, branched, nodePut, loadConditionInStore};
+ghost use Rattle.tables.specs.Condition.{nodeLoaded, leafIn, branchIn, loadConditionIn, leafed, branched, nodePut, loadConditionInStore};
 ghost use Rattle.tables.specs.declared.Loaded.the-variants.{Done};
 use crate::Loaded;
-use crate::Node;
 use crate::version_set;
+use store::codes;
 use store::limits;
 use store::read;
 use store::wide;
 use store::write;
 
 // Whether a condition node is loaded; a number out of range never is.
-pub fn node_loaded(s: &[u32], node: u32) -> bool
+fn node_loaded(s: &[u32], node: u32) -> bool
     requires { ⌜ words ≤ length (now s) ⌝ }
     ensures { λ r. ⌜ r ≡ nodeLoaded (now (s .entry)) node ⌝ }
 {
@@ -24,43 +24,6 @@ pub fn node_loaded(s: &[u32], node: u32) -> bool
         return 0 < read::node_kind(s, wide(node));
     }
     false
-}
-
-// The node that its words say. A branch without one of its children is missing, so a child is always smaller than its node.
-fn node_as(kind: u32, set: u32, left: u32, right: u32) -> Node
-    ensures { λ r. ⌜ r ≡ nodeAs kind set left right ⌝ }
-{
-    if kind == 1 {
-        return Node::Leaf(set);
-    }
-    if left == 0 {
-        return Node::Missing;
-    }
-    if right == 0 {
-        return Node::Missing;
-    }
-    if kind == 2 {
-        return Node::And(left - 1, right - 1);
-    }
-    if kind == 3 {
-        return Node::Or(left - 1, right - 1);
-    }
-    Node::Missing
-}
-
-// What a condition node is; a number out of range is missing.
-pub fn node_of(s: &[u32], node: u32) -> Node
-    requires { ⌜ words ≤ length (now s) ⌝ }
-    ensures { λ r. ⌜ r ≡ nodeOf (now (s .entry)) node ⌝ }
-{
-    if limits::NODES as u32 <= node {
-        return Node::Missing;
-    }
-    let kind = read::node_kind(s, wide(node));
-    let set = read::node_set(s, wide(node));
-    let left = read::node_left(s, wide(node));
-    let right = read::node_right(s, wide(node));
-    node_as(kind, set, left, right)
 }
 
 // What loading a leaf would answer.
@@ -125,11 +88,11 @@ fn put_leaf(s: &mut [u32], node: u32, set: u32)
     requires { ⌜ (words ≤ length (now s)) × (node < nodes) ⌝ }
     ensures { λ _. ⌜ now (s .exit) ≡ leafed (now (s .entry)) node set ⌝ }
 {
-    write::node_kind(s, wide(node), 1);
+    write::node_kind(s, wide(node), codes::LEAF);
     write::node_set(s, wide(node), set);
 }
 
-// Writes a branch.
+// Writes a branch. The kinds of the calls, 0 a leaf, 1 `and`, 2 `or`, are stored as one more, as the children are.
 fn put_branch(s: &mut [u32], node: u32, kind: u32, left: u32, right: u32)
     requires { ⌜ (words ≤ length (now s)) × (node < nodes) × (kind < lastWord) × (left < lastWord) × (right < lastWord) ⌝ }
     ensures { λ _. ⌜ now (s .exit) ≡ branched (now (s .entry)) node kind left right ⌝ }

@@ -1,4 +1,4 @@
-// Disjunctions in a store of sound shape. The layers above, which have tested the shape, call these.
+// Disjunctions in a store of sound shape. The crate's public calls test the shape and then call these.
 ghost use mathlib.Core.Path.{_≡_};
 ghost use Prim.Native.Nat.{_+_, _≤_, _<_};
 ghost use lib.ListN.{length};

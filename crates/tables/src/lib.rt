@@ -17,21 +17,13 @@ pub enum Loaded {
     Refused(u32),
 }
 
-// What a condition node is: the version set of a leaf, the two children of a branch.
-pub enum Node {
-    Missing,
-    Leaf(u32),
-    And(u32, u32),
-    Or(u32, u32),
-}
-
 // Where the literals of a disjunction begin, and how many there are.
 pub struct Literals {
     pub start: u32,
     pub count: u32,
 }
 
-// Loads a version set: it is of a name.
+// Loads a version set with its name.
 pub fn load_version_set(s: &mut [u32], set: u32, name: u32) -> Loaded
     ensures { λ r. ⌜ (r ≡ loadVersionSetOut (now (s .entry)) set name) × (now (s .exit) ≡ loadVersionSetStore (now (s .entry)) set name) ⌝ }
 {

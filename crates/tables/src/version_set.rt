@@ -1,4 +1,4 @@
-// Version sets in a store of sound shape. The layers above, which have tested the shape, call these.
+// Version sets in a store of sound shape. The crate's public calls test the shape and then call these.
 ghost use mathlib.Core.Path.{_≡_};
 ghost use Prim.Native.Nat.{_≤_};
 ghost use lib.ListN.{length};

@@ -1,4 +1,4 @@
-// Unions of version sets in a store of sound shape. The layers above, which have tested the shape, call these.
+// Unions of version sets in a store of sound shape. The crate's public calls test the shape and then call these.
 ghost use mathlib.Core.Path.{_≡_};
 ghost use Prim.Native.Nat.{_≤_, _<_};
 ghost use lib.ListN.{length};
@@ -17,7 +17,7 @@ use store::wide;
 use store::write;
 
 // Whether a union is loaded; a number out of range never is.
-pub fn union_loaded(s: &[u32], union: u32) -> bool
+fn union_loaded(s: &[u32], union: u32) -> bool
     requires { ⌜ words ≤ length (now s) ⌝ }
     ensures { λ r. ⌜ r ≡ unionLoaded (now (s .entry)) union ⌝ }
 {

@@ -4,9 +4,8 @@ use Prim.Native.Nat.{ℕ, _<_}
 use native.Mathlib.Omega.{arith}
 use borrow.Author.Needs.{needs}
 use denote.Ref.{now}
-use lib.Dec.{T}
 use lib.ListN.{length, length-set}
-use Rattle.conditions.proofs.Writing.{first-fits, second-fits, both-done}
+use Rattle.conditions.proofs.Writing.{leaf-fits, first-fits, second-fits, both-done}
 use Rattle.conditions.specs.Dnf.{termOf}
 use Rattle.conditions.specs.Ways.{Asked, Good}
 use borrow.Fn.Kinds.{In}
@@ -39,31 +38,13 @@ emit-enum-known-v : (t : ℕ) → emit-lts.Need-enum-known-v (claims t) (emit-at
 emit-enum-known-v t c = search needs
 
 emit-mul-out : (t : ℕ) → emit-lts.Need-mul-out (claims t) (emit-at t) emit.Post
-emit-mul-out t c =
-    let start = c .before .before .before .before .before .before in
-    let w = now (start .args .s) in
-    let e : termOf w (start .args .c) (start .args .i) ≡ _ ∷ [] = subst (Good w (start .args .c) (start .args .i)) (c .before .v .given .1) (c .before .before .before .way-of .ensures) in
-    let q = ap length e in
-    let h = start .pre .1 .1 .1 .1 in
-    omega arith
+emit-mul-out t c = omega (arith, leaf-fits _ _ _ _ _ _ _ (c .before .v .given .1) (c .before .before .before .way-of .ensures) (c .before .before .before .before .before .before .pre .1 .1 .1 .1))
 
 emit-slice-write-out : (t : ℕ) → emit-lts.Need-slice-write-out (claims t) (emit-at t) emit.Post
-emit-slice-write-out t c =
-    let start = c .before .before .before .before .before .before in
-    let w = now (start .args .s) in
-    let e : termOf w (start .args .c) (start .args .i) ≡ _ ∷ [] = subst (Good w (start .args .c) (start .args .i)) (c .before .v .given .1) (c .before .before .before .way-of .ensures) in
-    let q = ap length e in
-    let h = start .pre .1 .1 .1 .1 in
-    omega arith
+emit-slice-write-out t c = omega (arith, leaf-fits _ _ _ _ _ _ _ (c .before .v .given .1) (c .before .before .before .way-of .ensures) (c .before .before .before .before .before .before .pre .1 .1 .1 .1))
 
 emit-add-result : (t : ℕ) → emit-lts.Need-add-result (claims t) (emit-at t) emit.Post
-emit-add-result t c =
-    let start = c .before .before .before .before .before .before in
-    let w = now (start .args .s) in
-    let e : termOf w (start .args .c) (start .args .i) ≡ _ ∷ [] = subst (Good w (start .args .c) (start .args .i)) (c .before .v .given .1) (c .before .before .before .way-of .ensures) in
-    let q = ap length e in
-    let h = start .pre .1 .1 .1 .1 in
-    omega arith
+emit-add-result t c = omega (arith, leaf-fits _ _ _ _ _ _ _ (c .before .v .given .1) (c .before .before .before .way-of .ensures) (c .before .before .before .before .before .before .pre .1 .1 .1 .1))
 
 emit-enum-known-d : (t : ℕ) → emit-lts.Need-enum-known-d (claims t) (emit-at t) emit.Post
 emit-enum-known-d t c = search needs
@@ -86,13 +67,9 @@ emit-emit-requires-2 t c κs =
     let start = c .before .before .before .before .before .before .before in
     let w = now (start .args .s) in
     let o = subst (Good w (start .args .c) (start .args .i)) (c .before .before .d2 .given .1) (c .before .before .before .before .way-of .ensures) in
-    let g = c .before .before .d2 .given .0 in
-    let T = termOf w (start .args .c) (start .args .i) in
-    let A = termOf w (g .0) (g .1 .0) in
-    let B = termOf w (g .1 .1 .0) (g .1 .1 .1 .0) in
     let h = start .pre .1 .1 .1 .1 in
     let z = start .pre .0 in
-    let f = first-fits T A B (o .4) (start .args .from) (length (now (start .args .out))) h in
+    let f = first-fits _ _ _ _ _ _ _ o (start .args .from) (length (now (start .args .out))) h in
     (omega arith, (start .pre .1 .0, (start .pre .1 .1 .0, (o .1, f))))
 
 emit-emit-requires-3 : (t : ℕ) → emit-lts.Need-emit-requires-3 (claims t) (emit-at t) emit.Post
@@ -100,13 +77,9 @@ emit-emit-requires-3 t c κs =
     let start = c .before .before .before .before .before .before .before .before .before .before .before in
     let w = now (start .args .s) in
     let o = subst (Good w (start .args .c) (start .args .i)) (c .before .before .before .before .before .before .d2 .given .1) (c .before .before .before .before .before .before .before .before .way-of .ensures) in
-    let g = c .before .before .before .before .before .before .d2 .given .0 in
-    let T = termOf w (start .args .c) (start .args .i) in
-    let A = termOf w (g .0) (g .1 .0) in
-    let B = termOf w (g .1 .1 .0) (g .1 .1 .1 .0) in
     let h = start .pre .1 .1 .1 .1 in
     let z = start .pre .0 in
-    let f = second-fits T A B (o .4) (start .args .from) (length (now (start .args .out))) _ _ h (c .before .before .before .emit2 .ensures .0) (c .before .before .before .emit2 .kept .1 .1 .1 .1 .0) in
+    let f = second-fits _ _ _ _ _ _ _ o (start .args .from) (length (now (start .args .out))) _ _ h (c .before .before .before .emit2 .ensures .0) (c .before .before .before .emit2 .kept .1 .1 .1 .1 .0) in
     (omega arith, (start .pre .1 .0, (start .pre .1 .1 .0, (o .3, f))))
 
 emit-same-length : (t : ℕ) → emit-lts.Need-same-length (claims t) (emit-at t) emit.Post
@@ -137,13 +110,9 @@ emit-returns-3 t c =
     let start = c .before .before .before .before .before .before .before .before .before .before .before .before .before .before in
     let w = now (start .args .s) in
     let o = subst (Good w (start .args .c) (start .args .i)) (c .before .before .before .before .before .before .before .before .before .d2 .given .1) (c .before .before .before .before .before .before .before .before .before .before .before .way-of .ensures) in
-    let g = c .before .before .before .before .before .before .before .before .before .d2 .given .0 in
-    let T = termOf w (start .args .c) (start .args .i) in
-    let A = termOf w (g .0) (g .1 .0) in
-    let B = termOf w (g .1 .1 .0) (g .1 .1 .1 .0) in
     let a = c .before .before .before .before .before .before .emit2 in
     let b = c .before .before .emit3 in
-    both-done T A B (o .4) (now (start .args .out)) (a .last .1 .1 .1 .1 .0) (b .last .1 .1 .1 .1 .0) (start .args .from) (a .result) (b .result) (a .ensures .0) (a .ensures .1) (b .ensures .0) (b .ensures .1)
+    both-done _ _ _ _ _ _ _ o (now (start .args .out)) (a .last .1 .1 .1 .1 .0) (b .last .1 .1 .1 .1 .0) (start .args .from) (a .result) (b .result) (a .ensures .0) (a .ensures .1) (b .ensures .0) (b .ensures .1)
 
 pub +emit-spec : {M : Type 1} → statement M
 +emit-spec = close μ-emit λ t. emit-lts.spec (claims t)

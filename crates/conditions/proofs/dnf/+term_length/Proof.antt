@@ -3,7 +3,6 @@ use Prim.Native.Nat.{ℕ, _<_}
 use native.Mathlib.Omega.{arith}
 use borrow.Author.Needs.{needs}
 use denote.Ref.{now}
-use lib.Dec.{T}
 use Rattle.conditions.proofs.Measuring.{long-first, sum-capped, capped-most}
 use Rattle.conditions.specs.Dnf.{termOf}
 use Rattle.conditions.specs.Ways.{Asked, Good}
@@ -67,11 +66,7 @@ term-length-returns t c =
     let start = c .before .before .before .before .before .before .before in
     let w = now (start .args .s) in
     let o = subst (Good w (start .args .c) (start .args .i)) (c .before .before .before .d2 .given .1) (c .before .before .before .before .before .way-of .ensures) in
-    let g = c .before .before .before .d2 .given .0 in
-    let T = termOf w (start .args .c) (start .args .i) in
-    let A = termOf w (g .0) (g .1 .0) in
-    let B = termOf w (g .1 .1 .0) (g .1 .1 .1 .0) in
-    long-first T A B (o .4) _ (c .before .term-length2 .ensures) (c .if1 .taken)
+    long-first _ _ _ _ _ _ _ o _ (c .before .term-length2 .ensures) (c .if1 .taken)
 
 term-length-term-length-requires-3 : (t : ℕ) → term-length-lts.Need-term-length-requires-3 (claims t) (term-length-at t) term-length.Post
 term-length-term-length-requires-3 t c κs =
@@ -83,12 +78,7 @@ term-length-term-length-requires-3 t c κs =
 
 term-length-add-capped : (t : ℕ) → term-length-lts.Need-add-capped (claims t) (term-length-at t) term-length.Post
 term-length-add-capped t c =
-    let start = c .before .before .before .before .before .before .before .before in
-    let w = now (start .args .s) in
-    let g = c .before .before .before .before .d2 .given .0 in
-    let A = termOf w (g .0) (g .1 .0) in
-    let B = termOf w (g .1 .1 .0) (g .1 .1 .1 .0) in
-    omega (arith, capped-most A _ (c .before .before .term-length2 .ensures), capped-most B _ (c .term-length3 .ensures))
+    omega (arith, capped-most (termOf _ _ _) _ (c .before .before .term-length2 .ensures), capped-most (termOf _ _ _) _ (c .term-length3 .ensures))
 
 term-length-cast-capped : (t : ℕ) → term-length-lts.Need-cast-capped (claims t) (term-length-at t) term-length.Post
 term-length-cast-capped t c = search needs
@@ -118,11 +108,7 @@ term-length-returns-4 t c =
     let start = c .before .before .before .before .before .before .before .before .before in
     let w = now (start .args .s) in
     let o = subst (Good w (start .args .c) (start .args .i)) (c .before .before .before .before .before .d2 .given .1) (c .before .before .before .before .before .before .before .way-of .ensures) in
-    let g = c .before .before .before .before .before .d2 .given .0 in
-    let T = termOf w (start .args .c) (start .args .i) in
-    let A = termOf w (g .0) (g .1 .0) in
-    let B = termOf w (g .1 .1 .0) (g .1 .1 .1 .0) in
-    sum-capped T A B (o .4) _ _ _ (c .before .before .before .term-length2 .ensures) (c .before .term-length3 .ensures) (c .capped .ensures)
+    sum-capped _ _ _ _ _ _ _ o _ _ _ (c .before .before .before .term-length2 .ensures) (c .before .term-length3 .ensures) (c .capped .ensures)
 
 pub +term-length-spec : {M : Type 1} → statement M
 +term-length-spec = close μ-term-length λ t. term-length-lts.spec (claims t)

@@ -6,8 +6,8 @@ use denote.Ref.{now}
 use lib.ListN.{length, getD, replicate}
 use Rattle.conditions.proofs.Tallying.{tally-start, tally-most, tally-more}
 use Rattle.conditions.specs.Dnf.{linked}
-use Rattle.conditions.specs.Ways.{mostTerms, links}
-use Rattle.store.specs.Limits.{nodes}
+use Rattle.conditions.specs.Ways.{links}
+use Rattle.store.specs.Limits.{nodes, mostTerms}
 use Rattle.conditions.proofs.dnf.tally.Statement.{statement}
 use Rattle.conditions.proofs.dnf.tally.Tie as tie
 

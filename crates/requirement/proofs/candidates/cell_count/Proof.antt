@@ -5,7 +5,7 @@ use borrow.Author.Needs.{needs}
 use denote.Ref.{now}
 use lib.ListN.{length}
 use Rattle.requirement.proofs.Copying.{count-most, cells-most, left-start, sum-turn, sum-none}
-use Rattle.requirement.specs.Copy.{joined}
+use Rattle.store.specs.Lent.{joined}
 use Rattle.requirement.specs.Tables.{keyOf, firstSlot, listsFrom}
 use Rattle.store.specs.Limits.{cellRoom}
 use Rattle.requirement.proofs.candidates.cell_count.Statement.{statement}

@@ -5,7 +5,7 @@ use borrow.Author.Needs.{needs}
 use denote.Ref.{now}
 use lib.ListN.{length}
 use Rattle.requirement.proofs.Copying.{left-start, sum-turn, joined-turn, joined-done}
-use Rattle.requirement.specs.Copy.{joined}
+use Rattle.store.specs.Lent.{joined}
 use Rattle.requirement.specs.Tables.{keyOf, firstSlot, listsFrom}
 use Rattle.store.proofs.Runs.{length-run}
 use Rattle.store.specs.Area.{putRun}
