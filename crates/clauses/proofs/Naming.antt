@@ -2,15 +2,14 @@
 use mathlib.Core.Bool.{Bool, true, false, cond}
 use mathlib.Core.List.{List}
 use mathlib.Core.Path.{_≡_, sym, ap, _∙_}
-use Prim.Native.Nat.{ℕ, zero, suc, _+_, _≤_, _<_}
+use Prim.Native.Nat.{ℕ, zero, suc, _+_, _≤_}
 use native.Mathlib.Numerals.{add-one}
 use native.Mathlib.Omega.{arith}
-use borrow.Author.Tests.{lt-ltb, eq-eqb, ne-eqb}
+use borrow.Author.Tests.{eq-eqb, ne-eqb}
 use Rattle.clauses.specs.Names.{otherName, newName, nameCount, newNames, distinctNames}
 use Rattle.requirement.proofs.Loading.{sets-most}
 use Rattle.requirement.specs.Tables.{firstSlot, setCount, setOf, nameOf}
-use Rattle.store.specs.Limits.{versionSets, unionRoom}
-use Rattle.store.specs.Numbers.{allFrom}
+use Rattle.store.specs.Limits.{unionRoom}
 use Rattle.store.specs.Shape.{Sound}
 
 module _ (w : List ℕ) (first i j x y : ℕ) (a : x ≡ nameOf w (setOf w (first + j))) (b : y ≡ nameOf w (setOf w (first + i))) where
@@ -27,7 +26,7 @@ pub name-counts : (w : List ℕ) (first i count n : ℕ) → count ≡ newNames 
 unfolding newNames
 name-counts w first i count n so e = rw (add-one i, so, e)
 
-pub one-name : (w : List ℕ) (first i : ℕ) → nameCount w first i ≤ 1
+one-name : (w : List ℕ) (first i : ℕ) → nameCount w first i ≤ 1
 unfolding nameCount
 one-name w first i = go (newName w first i)
   where
@@ -35,15 +34,10 @@ one-name w first i = go (newName w first i)
     go true = omega arith
     go false = omega arith
 
-pub new-names-few : (w : List ℕ) (first n : ℕ) → newNames w first n ≤ n
+new-names-few : (w : List ℕ) (first n : ℕ) → newNames w first n ≤ n
 unfolding newNames
 new-names-few w first zero = omega arith
 new-names-few w first (suc n) = omega (arith, one-name w first n, new-names-few w first n)
-
--- a single has one name
-pub single-names : (w : List ℕ) (key : ℕ) → key < versionSets → distinctNames w key ≡ 1
-unfolding distinctNames setCount newNames nameCount newName allFrom
-single-names w key h = rw (lt-ltb key versionSets h)
 
 -- a union has at most eight members, so a requirement at most eight names
 pub names-few : (w : List ℕ) (key : ℕ) → Sound w → distinctNames w key ≤ unionRoom

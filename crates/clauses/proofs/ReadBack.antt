@@ -8,8 +8,8 @@ use lib.Dec.{T, leb, leb→le}
 use lib.ListN.{getD, take, drop}
 use Rattle.clauses.proofs.InsertLaws.{insertedAll, Room, length-inserted-all, area-inserted-all}
 use Rattle.clauses.proofs.Kept.{rows, sums, sums-inside, registered-rows, rows-room}
-use Rattle.clauses.specs.Record.{requirementOf, clauseAt, rankOf}
-use Rattle.clauses.specs.Register.{conditionWord, Placed, queuedMark, registered}
+use Rattle.clauses.specs.Record.{clauseAt, rankOf}
+use Rattle.clauses.specs.Register.{conditionWord, Placed, queuedMark, clauseOf, registered}
 use Rattle.store.proofs.AreaLaws.{area-puts, at-written}
 use Rattle.store.proofs.Choice.{both, is-true, eq-or, lt-or}
 use Rattle.store.proofs.RankLaws.{length-inserted, area-inserted-kept, at-inserted-before, at-inserted, at-inserted-behind}
@@ -111,7 +111,7 @@ module _ (w : List ℕ) (parent key condition clause : ℕ) (p : Placed w parent
       (omega arith) tt (sums-inside w parent key condition clause .1)
 
   -- the clause at its rank, those before it and those behind it
-  pub clause-here : clauseAt left (rankOf w parent) ≡ record { parent = parent; requirement = requirementOf key; condition = conditionWord condition; id = clause }
+  pub clause-here : clauseAt left (rankOf w parent) ≡ clauseOf parent key condition clause
   unfolding clauseAt
   clause-here = rw (parent-shifted .here, requirement-shifted .here, condition-shifted .here, id-shifted .here)
 

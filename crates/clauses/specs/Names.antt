@@ -1,4 +1,4 @@
--- "The sum of their distinct names": how many distinct names the version sets of a requirement have.
+-- "The sum of their distinct names": the names of a requirement, counted list by list.
 use mathlib.Core.Bool.{Bool, not, cond}
 use mathlib.Core.List.{List}
 use Prim.Native.Nat.{ℕ, zero, suc, _+_}
@@ -23,5 +23,6 @@ unfoldable pub newNames : List ℕ → ℕ → ℕ → ℕ
 newNames w first zero = 0
 newNames w first (suc n) = newNames w first n + nameCount w first n
 
+-- how many distinct names the version sets of a requirement have
 unfoldable pub distinctNames : List ℕ → ℕ → ℕ
 distinctNames w key = newNames w (firstSlot key) (setCount w key)

@@ -10,15 +10,16 @@ use Rattle.clauses.specs.declared.Clause.{Clause}
 use Rattle.requirement.specs.declared.Requirement.{Requirement}
 use Rattle.requirement.specs.declared.Requirement.the-variants.{Single, Union}
 
--- "The clause record keeps its requirement, single or union, inside it": the requirement of a stored key
-unfoldable pub requirementOf : ℕ → Requirement
-requirementOf key = cond (ltb key versionSets) (Single key) (Union (key - versionSets))
+-- the requirement of a stored key: the single's version set, or 256 more than the union
+abbrev pub ofKey : ℕ → Requirement
+ofKey key = cond (ltb key versionSets) (Single key) (Union (key - versionSets))
 
+-- "The clause record keeps its requirement, single or union, inside it"
 unfoldable pub clauseAt : List ℕ → ℕ → Clause
 clauseAt w k =
     record {
       parent = at clauseParents k w;
-      requirement = requirementOf (at clauseRequirements k w);
+      requirement = ofKey (at clauseRequirements k w);
       condition = at clauseConditions k w;
       id = at clauseIds k w;
     }

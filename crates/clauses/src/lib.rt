@@ -7,7 +7,7 @@ use store::shape;
 pub mod records;
 pub mod registering;
 
-// A clause as it is stored: its condition is 0 for none, else one more than the disjunction.
+// A clause as it is stored, with its requirement, single or union, inside it: its condition is 0 for none, else one more than the disjunction.
 pub struct Clause {
     pub parent: u32,
     pub requirement: Requirement,

@@ -5,16 +5,15 @@ ghost use lib.ListN.{length};
 ghost use Rattle.store.specs.Layout.{words};
 ghost use Rattle.store.specs.Limits.{clauses};
 ghost use Rattle.store.specs.Shape.{Sound};
-ghost use Rattle.clauses.specs.Record.{requirementOf, clauseAt, behindLast};
+ghost use Rattle.clauses.specs.Record.{ofKey, clauseAt, behindLast};
 use crate::Clause;
 use requirement::Requirement;
 use store::limits;
 use store::read;
-use store::wide;
 
 // The requirement of a key: a single's version set, or 256 more than a union.
-fn requirement_of(key: u32) -> Requirement
-    ensures { λ r. ⌜ r ≡ requirementOf key ⌝ }
+fn of_key(key: u32) -> Requirement
+    ensures { λ r. ⌜ r ≡ ofKey key ⌝ }
 {
     if key < limits::VERSION_SETS as u32 {
         return Requirement::Single(key);
@@ -22,11 +21,12 @@ fn requirement_of(key: u32) -> Requirement
     Requirement::Union(key - limits::VERSION_SETS as u32)
 }
 
+// The record of clause k, with its requirement inside it: at its rank, what registering has put there (`clause-here`).
 pub fn clause_at(s: &[u32], k: usize) -> Clause
     requires { ⌜ (Sound (now s)) × (k < clauses) ⌝ }
     ensures { λ r. ⌜ r ≡ clauseAt (now (s .entry)) k ⌝ }
 {
-    let requirement = requirement_of(read::requirement(s, k));
+    let requirement = of_key(read::requirement(s, k));
     Clause {
         parent: read::parent(s, k),
         requirement,

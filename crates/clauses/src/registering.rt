@@ -1,17 +1,22 @@
-// Registering a clause in a store of sound shape. The layers above, which have tested the shape, call these.
+// Registering a clause in a store of sound shape. The crate's public calls test the shape and then call these.
 ghost use mathlib.Core.Bool.{true};
 ghost use mathlib.Core.Path.{_≡_};
 ghost use Prim.Native.Nat.{_+_, _≤_, _<_};
 ghost use lib.ListN.{length};
+ghost use Rattle.requirement.specs.Part.{Named};
+ghost use Rattle.requirement.specs.Tables.{keyOf};
 ghost use Rattle.store.specs.Layout.{words};
 ghost use Rattle.store.specs.Limits.{clauses, variables, requirements, lists};
 ghost use Rattle.store.specs.Shape.{Sound};
 ghost use Rattle.clauses.specs.Names.{newName, nameCount, newNames, distinctNames};
 ghost use Rattle.clauses.specs.Register.{knownCondition, conditionWord, literalCountOf, allNamed, hasRoom, registerIn, queuedMark, recordIn, Placed, registered, registerInStore};
+use crate::Clause;
 use crate::Registered;
 use crate::records;
+use requirement::Requirement;
 use requirement::candidates;
 use store::areas;
+use store::codes;
 use store::limits;
 use store::ranks;
 use store::read;
@@ -77,7 +82,7 @@ fn is_known(s: &[u32], condition: u32) -> bool
     requires { ⌜ words ≤ length (now s) ⌝ }
     ensures { λ r. ⌜ r ≡ knownCondition (now (s .entry)) condition ⌝ }
 {
-    if condition == limits::LAST_WORD as u32 {
+    if condition == codes::NO_CONDITION {
         return true;
     }
     disjunction::disjunction_loaded(s, condition)
@@ -87,7 +92,7 @@ fn is_known(s: &[u32], condition: u32) -> bool
 fn condition_word(condition: u32) -> u32
     ensures { λ r. ⌜ r ≡ conditionWord condition ⌝ }
 {
-    if condition == limits::LAST_WORD as u32 {
+    if condition == codes::NO_CONDITION {
         return 0;
     }
     condition + 1
@@ -98,7 +103,7 @@ fn literals_in(s: &[u32], condition: u32) -> usize
     requires { ⌜ (words ≤ length (now s)) × (knownCondition (now s) condition ≡ true) ⌝ }
     ensures { λ r. ⌜ r ≡ literalCountOf (now (s .entry)) condition ⌝ }
 {
-    if condition == limits::LAST_WORD as u32 {
+    if condition == codes::NO_CONDITION {
         return 0;
     }
     let literals = disjunction::literals_of(s, condition);
@@ -159,26 +164,20 @@ fn mark_of(s: &[u32], parent: u32) -> u32
     0
 }
 
-// Puts a record in at its rank, in each area of the records.
-fn put_record(
-    s: &mut [u32],
-    rank: usize,
-    count: usize,
-    parent: u32,
-    key: u32,
-    condition: u32,
-    id: u32,
-)
-    requires { ⌜ (words ≤ length (now s)) × (rank ≤ count) × (count < clauses) ⌝ }
-    ensures { λ _. ⌜ now (s .exit) ≡ recordIn rank count parent key condition id (now (s .entry)) ⌝ }
+// Puts a record in at its rank, in each area of the records: a requirement is stored as its key.
+fn put_record(s: &mut [u32], rank: usize, count: usize, clause: Clause)
+    requires { ⌜ (words ≤ length (now s)) × (rank ≤ count) × (count < clauses) × (keyOf (clause .requirement) < requirements) ⌝ }
+    ensures { λ _. ⌜ now (s .exit) ≡ recordIn rank count clause (now (s .entry)) ⌝ }
 {
+    let requirement = clause.requirement;
+    let key = candidates::key_of(requirement);
     ranks::insert(
         s,
         areas::CLAUSE_PARENTS,
         areas::CLAUSE_PARENTS_SIZE,
         rank,
         count,
-        parent,
+        clause.parent,
     );
     ranks::insert(
         s,
@@ -186,7 +185,7 @@ fn put_record(
         areas::CLAUSE_REQUIREMENTS_SIZE,
         rank,
         count,
-        key,
+        key as u32,
     );
     ranks::insert(
         s,
@@ -194,7 +193,7 @@ fn put_record(
         areas::CLAUSE_CONDITIONS_SIZE,
         rank,
         count,
-        condition,
+        clause.condition,
     );
     ranks::insert(
         s,
@@ -202,29 +201,28 @@ fn put_record(
         areas::CLAUSE_IDS_SIZE,
         rank,
         count,
-        id,
+        clause.id,
     );
 }
 
 // The work of registering, once nothing refuses it.
-fn put_in(s: &mut [u32], parent: u32, key: usize, condition: u32, clause: u32)
-    requires { ⌜ (Sound (now s)) × (Placed (now s) parent key condition) ⌝ }
-    ensures { λ _. ⌜ now (s .exit) ≡ registered (now (s .entry)) parent key condition clause ⌝ }
+fn put_in(s: &mut [u32], parent: u32, requirement: Requirement, condition: u32, id: u32)
+    requires { ⌜ (Sound (now s)) × (Named requirement) × (Placed (now s) parent (keyOf requirement) condition) ⌝ }
+    ensures { λ _. ⌜ now (s .exit) ≡ registered (now (s .entry)) parent (keyOf requirement) condition id ⌝ }
 {
     let count = wide(read::clause_count(s));
     let rank = records::rank_of(s, parent, count);
     let mark = mark_of(s, parent);
     let literals = wide(read::condition_total(s)) + literals_in(s, condition);
+    let key = candidates::key_of(requirement);
     let names = wide(read::name_total(s)) + names_of(s, key);
-    put_record(
-        s,
-        rank,
-        count,
+    let clause = Clause {
         parent,
-        key as u32,
-        condition_word(condition),
-        clause,
-    );
+        requirement,
+        condition: condition_word(condition),
+        id,
+    };
+    put_record(s, rank, count, clause);
     ranks::insert(s, areas::QUEUED, areas::QUEUED_SIZE, rank, count, mark);
     write::clause_count(s, count as u32 + 1);
     write::condition_total(s, literals as u32);
@@ -245,8 +243,8 @@ pub fn register(
     let r = register_case(s, parent, kind, requirement, condition);
     match r {
         Registered::Done => {
-            let key = candidates::key_of(candidates::requirement_of(kind, requirement));
-            put_in(s, parent, key, condition, clause)
+            let named = candidates::requirement_of(kind, requirement);
+            put_in(s, parent, named, condition, clause)
         }
         Registered::Refused(_) => {}
     }

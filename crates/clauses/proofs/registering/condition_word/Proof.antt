@@ -4,9 +4,6 @@ use Rattle.store.proofs.Choice.{tests}
 use Rattle.clauses.proofs.registering.condition_word.Statement.{statement}
 use Rattle.clauses.proofs.registering.condition_word.Tie as tie
 
-cast-if1 : tie.Need-cast-if1
-cast-if1 c = search needs
-
 returns : tie.Need-returns
 unfolding conditionWord
 returns c = search tests
@@ -19,4 +16,4 @@ unfolding conditionWord
 returns-2 c = search tests
 
 pub condition-word-spec : {M : Type 1} → statement M
-condition-word-spec = tie.close (tie.spec cast-if1 returns add-result returns-2)
+condition-word-spec = tie.close (tie.spec returns add-result returns-2)

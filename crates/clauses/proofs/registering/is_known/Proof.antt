@@ -2,12 +2,9 @@ use borrow.Author.Needs.{needs}
 use borrow.Author.Tests.{ne-eqb}
 use Rattle.clauses.specs.Register.{knownCondition}
 use Rattle.store.proofs.Choice.{tests}
-use Rattle.store.specs.Limits.{lastWord}
+use Rattle.store.specs.Codes.{noCondition}
 use Rattle.clauses.proofs.registering.is_known.Statement.{statement}
 use Rattle.clauses.proofs.registering.is_known.Tie as tie
-
-cast-if1 : tie.Need-cast-if1
-cast-if1 c = search needs
 
 returns : tie.Need-returns
 unfolding knownCondition
@@ -18,7 +15,7 @@ disjunction-loaded-requires c κs = search needs
 
 returns-2 : tie.Need-returns-2
 unfolding knownCondition
-returns-2 c = simp (ne-eqb _ lastWord (c .before .if1 .left)) (c .disjunction-loaded .ensures)
+returns-2 c = simp (ne-eqb _ noCondition (c .before .if1 .left)) (c .disjunction-loaded .ensures)
 
 pub is-known-spec : {M : Type 1} → statement M
-is-known-spec = tie.close (tie.spec cast-if1 returns disjunction-loaded-requires returns-2)
+is-known-spec = tie.close (tie.spec returns disjunction-loaded-requires returns-2)

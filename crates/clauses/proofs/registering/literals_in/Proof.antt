@@ -4,12 +4,9 @@ use borrow.Author.Tests.{ne-eqb}
 use Rattle.clauses.proofs.Registers.{known-small}
 use Rattle.clauses.specs.Register.{literalCountOf}
 use Rattle.store.proofs.Choice.{tests}
-use Rattle.store.specs.Limits.{lastWord}
+use Rattle.store.specs.Codes.{noCondition}
 use Rattle.clauses.proofs.registering.literals_in.Statement.{statement}
 use Rattle.clauses.proofs.registering.literals_in.Tie as tie
-
-cast-if1 : tie.Need-cast-if1
-cast-if1 c = search needs
 
 returns : tie.Need-returns
 unfolding literalCountOf
@@ -23,8 +20,8 @@ wide-requires c κs = search needs
 
 returns-2 : tie.Need-returns-2
 unfolding literalCountOf
-returns-2 c = rw (ne-eqb _ lastWord (c .before .before .if1 .left)) (c .wide .ensures ∙ ap (λ z. z .count) (c .before .literals-of .ensures))
+returns-2 c = rw (ne-eqb _ noCondition (c .before .before .if1 .left)) (c .wide .ensures ∙ ap (λ z. z .count) (c .before .literals-of .ensures))
 
 pub literals-in-spec : {M : Type 1} → statement M
 literals-in-spec =
-    tie.close (tie.spec cast-if1 returns literals-of-requires wide-requires returns-2)
+    tie.close (tie.spec returns literals-of-requires wide-requires returns-2)

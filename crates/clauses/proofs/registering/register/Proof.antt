@@ -1,6 +1,6 @@
 use mathlib.Core.Path.{sym, _∙_}
 use borrow.Author.Needs.{needs}
-use Rattle.clauses.proofs.Registers.{done-placed, done-left, refused-left}
+use Rattle.clauses.proofs.Registers.{done-placed, done-named, done-left, refused-left}
 use Rattle.clauses.specs.Register.{registerInStore}
 use Rattle.store.specs.Area.{at}
 use Rattle.clauses.proofs.registering.register.Statement.{statement}
@@ -15,11 +15,8 @@ enum-told c = search needs
 requirement-of-requires : tie.Need-requirement-of-requires
 requirement-of-requires c κs = search needs
 
-key-of-requires : tie.Need-key-of-requires
-key-of-requires c κs = search needs
-
 put-in-requires : tie.Need-put-in-requires
-put-in-requires c κs = (c .before .before .before .before .before .before .before .before .pre, rw (c .before .key-of .ensures, c .before .before .requirement-of .ensures) (done-placed _ _ _ _ _ (sym (c .before .before .before .before .before .register-case .ensures) ∙ c .before .before .before .enum-told .given .1)))
+put-in-requires c κs = let done = sym (c .before .before .before .before .register-case .ensures) ∙ c .before .before .enum-told .given .1 in (c .before .before .before .before .before .before .before .pre, rw (c .before .requirement-of .ensures) (done-named _ _ _ _ _ done), rw (c .before .requirement-of .ensures) (done-placed _ _ _ _ _ done))
 
 enum-told-2 : tie.Need-enum-told-2
 enum-told-2 c = search needs
@@ -29,7 +26,7 @@ same-length c = search needs
 
 returns : tie.Need-returns
 unfolding registerInStore
-returns c = let f = rw (c .before .before .before .before .key-of .ensures, c .before .before .before .before .before .requirement-of .ensures) at (c .before .before .put-in .ensures) in (c .before .before .before .before .before .before .before .before .register-case .ensures, f ∙ sym (done-left _ _ _ (sym (c .before .before .before .before .before .before .before .before .register-case .ensures) ∙ c .before .before .before .before .before .before .enum-told .given .1)))
+returns c = let f = rw (c .before .before .before .before .requirement-of .ensures) at (c .before .before .put-in .ensures) in (c .before .before .before .before .before .before .before .register-case .ensures, f ∙ sym (done-left _ _ _ (sym (c .before .before .before .before .before .before .before .register-case .ensures) ∙ c .before .before .before .before .before .enum-told .given .1)))
 
 same-length-2 : tie.Need-same-length-2
 same-length-2 c = search needs
@@ -45,7 +42,6 @@ register-spec =
     register-case-requires
     enum-told
     requirement-of-requires
-    key-of-requires
     put-in-requires
     enum-told-2
     same-length
