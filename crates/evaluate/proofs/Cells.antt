@@ -27,18 +27,18 @@ firstThat p (v ∷ vs) = cond (p v) (At v) (firstThat p vs)
 abbrev pub trueIn : List ℕ → ℕ → Bool
 trueIn w v = isTrue (assigned w v)
 
-abbrev pub freeIn : List ℕ → ℕ → Bool
-freeIn w v = isUndecided (assigned w v)
+abbrev pub undecidedIn : List ℕ → ℕ → Bool
+undecidedIn w v = isUndecided (assigned w v)
 
 pub true-search : (w l : List ℕ) → firstThat (trueIn w) l ≡ firstTrue (assigned w) l
 unfolding firstThat firstTrue
 true-search w [] = refl
 true-search w (v ∷ vs) = rw (true-search w vs)
 
-pub free-search : (w l : List ℕ) → firstThat (freeIn w) l ≡ firstUndecided (assigned w) l
+pub undecided-search : (w l : List ℕ) → firstThat (undecidedIn w) l ≡ firstUndecided (assigned w) l
 unfolding firstThat firstUndecided
-free-search w [] = refl
-free-search w (v ∷ vs) = rw (free-search w vs)
+undecided-search w [] = refl
+undecided-search w (v ∷ vs) = rw (undecided-search w vs)
 
 module _ (w : List ℕ) (place n : ℕ) (h : Sound w) (span : place + n ≤ cellRoom) where
   length-run : length (run w place n) ≡ n

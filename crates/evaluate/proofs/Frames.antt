@@ -6,7 +6,7 @@ use mathlib.Core.Path.{_≡_, ap, _∙_, fun-ext}
 use Prim.Native.Nat.{ℕ, _-_}
 use lib.Dec.{T, eqb}
 use Rattle.evaluate.proofs.Froms.{from-same}
-use Rattle.evaluate.specs.Standing.{entryAt, envOf, markOf, memoOf, mirrorOf, ofClause, queueOf, storeOf, trailOf}
+use Rattle.evaluate.specs.Standing.{entryAt, envOf, markOf, cacheOf, mirrorOf, ofClause, queueOf, storeOf, trailOf}
 use Rattle.evaluate.specs.View.{assigned, listAt, listsAt, literalAt, literalsAt}
 use Rattle.requirement.specs.Tables.{cellsOf, firstSlot, listCount, setCount, setOf}
 use Rattle.rules.specs.Store.{tuned}
@@ -97,9 +97,9 @@ assigned-same s w e = fun-ext (λ v. rw e)
 abbrev pub cachesRegion : Area
 cachesRegion = region cacheStates cacheCounts
 
-pub memo-same : (s w : List ℕ) → area cachesRegion s ≡ area cachesRegion w → (key : ℕ) → memoOf s key ≡ memoOf w key
-unfolding memoOf
-memo-same s w e key =
+pub cache-same : (s w : List ℕ) → area cachesRegion s ≡ area cachesRegion w → (key : ℕ) → cacheOf s key ≡ cacheOf w key
+unfolding cacheOf
+cache-same s w e key =
     rw (
       at-same cacheStates cachesRegion s w tt e key,
       at-same cacheCandidates cachesRegion s w tt e key,
@@ -114,7 +114,7 @@ module _ (s w : List ℕ) (e : area queueRegion s ≡ area queueRegion w) where
   mark-same n k = rw (n, at-same queued queueRegion s w tt e k)
 
   pub queue-same : at clauseCount 0 s ≡ at clauseCount 0 w → queueOf s ≡ queueOf w
-  queue-same n = λ i. record { mark = fun-ext (mark-same n) i; memo = fun-ext (memo-same s w (area-same cachesRegion queueRegion s w tt e)) i }
+  queue-same n = λ i. record { mark = fun-ext (mark-same n) i; cache = fun-ext (cache-same s w (area-same cachesRegion queueRegion s w tt e)) i }
 
 -- the trail, by its length and its entries
 pub entry-by : (s w : List ℕ) (k : ℕ) → at trailVariables k s ≡ at trailVariables k w → at trailValues k s ≡ at trailValues k w → entryAt s k ≡ entryAt w k

@@ -1,5 +1,5 @@
 -- What a function says of n numbers: its parts, and an area's words as such. Assumes nothing.
-use mathlib.Core.Bool.{true}
+use mathlib.Core.Bool.{Bool, true}
 use mathlib.Core.List.{List, [], _∷_, _++_}
 use mathlib.Core.Path.{_≡_, refl, ap, sym, _∙_}
 use Prim.Native.Nat.{ℕ, zero, suc, _+_, _-_, _≤_, _<_}
@@ -11,6 +11,7 @@ use lib.ListN.{length, getD, take, drop, length-take}
 use lib.Seq.{drop-cons}
 use Rattle.evaluate.specs.Standing.{entryAt, mirrorOf, trailOf}
 use Rattle.evaluate.specs.View.{from}
+use Rattle.store.proofs.Choice.{both}
 use Rattle.store.proofs.AreaLaws.{length-area}
 use Rattle.store.specs.Area.{Area, Fits, area, at}
 use Rattle.store.specs.Layout.{mirror, mirrorLength, trailLength}
@@ -102,6 +103,11 @@ pub every-from : (m : ℕ) (f : ℕ → ℕ) → ((k : ℕ) → f k ≤ m) → (
 unfolding every from
 every-from m f h i zero = refl
 every-from m f h i (suc n) = rw (le-leb (f i) m (h i), every-from m f h (i + 1) n)
+
+pub every-both : (p : ℕ → Bool) (xs ys : List ℕ) → every p xs ≡ true → every p ys ≡ true → every p (xs ++ ys) ≡ true
+unfolding every
+every-both p [] ys e f = f
+every-both p (x ∷ xs) ys e f = let b = both (p x) (every p xs) e in rw (b .0) (every-both p xs ys (b .1) f)
 
 -- how long the lists are that the words stand for
 pub length-trail : (w : List ℕ) → length (trailOf w) ≡ at trailLength 0 w

@@ -1,4 +1,5 @@
 pub mod Reading
+pub mod Records
 pub mod Turns
 pub mod Cells
 pub mod Scans

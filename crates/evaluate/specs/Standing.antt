@@ -9,10 +9,11 @@ use Rattle.rules.specs.Queue.{Queue}
 use Rattle.rules.specs.Store.{Store}
 use Rattle.rules.specs.Sync.{Entry}
 use Rattle.rules.specs.Walk.{Environment}
-use Rattle.rules.specs.declared.Memo.{Memo}
-use Rattle.rules.specs.declared.Memo.the-variants.{Dirty, Known}
+use Rattle.rules.specs.declared.Cache.{Cache}
+use Rattle.rules.specs.declared.Cache.the-variants.{Dirty, Known}
 use Rattle.rules.specs.declared.State.the-variants.{Satisfied, Frontier}
 use Rattle.store.specs.Area.{Area, area, at}
+use Rattle.store.specs.Codes.{dirty, satisfied}
 use Rattle.store.specs.Layout.{queued, cacheStates, cacheCandidates, cacheNames, cacheCounts, mirror, mirrorLength, syncFloor, trailLength, trailVariables, trailValues, mode, activities, hotNames, clauseCount, clauseParents, clauseRequirements, clauseConditions, clauseIds}
 use Rattle.store.specs.Limits.{names}
 
@@ -36,25 +37,27 @@ envOf w =
       standard = eqb (at mode 0 w) 1;
     }
 
--- a cache's four words: 0 dirty; 1 satisfied by a candidate; 2 a frontier's first candidate, name and count
-unfoldable pub memoBy : ℕ → ℕ → ℕ → ℕ → Memo
-memoBy state candidate name count = cond (eqb state 0) Dirty (cond (eqb state 1) (Known (Satisfied candidate)) (Known (Frontier candidate name count)))
+-- a cache's four words: dirty; satisfied by a candidate; or a frontier's first candidate, name and count
+unfoldable pub cacheBy : ℕ → ℕ → ℕ → ℕ → Cache
+cacheBy state candidate name count = cond (eqb state dirty) Dirty (cond (eqb state satisfied) (Known (Satisfied candidate)) (Known (Frontier candidate name count)))
 
 -- the cache of a requirement
-unfoldable pub memoOf : List ℕ → ℕ → Memo
-memoOf w key = memoBy (at cacheStates key w) (at cacheCandidates key w) (at cacheNames key w) (at cacheCounts key w)
+unfoldable pub cacheOf : List ℕ → ℕ → Cache
+cacheOf w key = cacheBy (at cacheStates key w) (at cacheCandidates key w) (at cacheNames key w) (at cacheCounts key w)
 
 -- "a queued mark per clause"
 unfoldable pub markOf : List ℕ → ℕ → Bool
 markOf w k = eqb (ofClause queued w k) 1
 
+-- the queue that the words stand for: marks and caches
 abbrev pub queueOf : List ℕ → Queue
-queueOf w = record { mark = markOf w; memo = memoOf w }
+queueOf w = record { mark = markOf w; cache = cacheOf w }
 
--- the trail's entries
+-- entry k of the trail
 unfoldable pub entryAt : List ℕ → ℕ → Entry
 entryAt w k = record { variable = at trailVariables k w; positive = eqb (at trailValues k w) 1 }
 
+-- the trail: its entries, first to last
 unfoldable pub trailOf : List ℕ → List Entry
 trailOf w = from (entryAt w) 0 (at trailLength 0 w)
 
@@ -62,5 +65,6 @@ trailOf w = from (entryAt w) 0 (at trailLength 0 w)
 unfoldable pub mirrorOf : List ℕ → List ℕ
 mirrorOf w = take (at mirrorLength 0 w) (area mirror w)
 
+-- THE STORE OF DOCUMENT 01 that the words stand for
 abbrev pub storeOf : List ℕ → Store
 storeOf w = record { env = envOf w; trail = trailOf w; mirror = mirrorOf w; floor = at syncFloor 0 w; queue = queueOf w }

@@ -41,7 +41,7 @@ pub fn is_false(s: &[u32], variable: u32) -> bool
     }
 }
 
-pub fn is_free(s: &[u32], variable: u32) -> bool
+pub fn is_undecided(s: &[u32], variable: u32) -> bool
     requires { ⌜ (Sound (now s)) × (variable < variables) ⌝ }
     ensures { λ r. ⌜ r ≡ isUndecided (assigned (now (s .entry)) variable) ⌝ }
 {

@@ -1,4 +1,4 @@
-// What a requirement is under the present assignment, and whether a condition passes. The layers above, which have tested the shape, call these.
+// What a requirement is under the present assignment, and whether a condition passes. The public calls above test the shape first.
 pub mod assignment;
-pub mod conditions;
+pub mod condition;
 pub mod lists;

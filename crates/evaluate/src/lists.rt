@@ -32,14 +32,14 @@ fn first_true(s: &[u32], start: usize, n: usize) -> Found
 }
 
 // The first of n cells whose variable is undecided.
-fn first_free(s: &[u32], start: usize, n: usize) -> Found
+fn first_undecided(s: &[u32], start: usize, n: usize) -> Found
     requires { ⌜ (Sound (now s)) × (start + n ≤ cellRoom) ⌝ }
     ensures { λ r. ⌜ r ≡ firstUndecided (assigned (now (s .entry))) (run (now (s .entry)) start n) ⌝ }
 {
     let mut i: usize = 0;
     while i < n {
         let x = read::candidate(s, start + i);
-        if assignment::is_free(s, x) {
+        if assignment::is_undecided(s, x) {
             return Found::At(x);
         }
         i += 1;
@@ -48,7 +48,7 @@ fn first_free(s: &[u32], start: usize, n: usize) -> Found
 }
 
 // How many of n cells are of an undecided variable.
-fn count_free(s: &[u32], start: usize, n: usize) -> u32
+fn count_undecided(s: &[u32], start: usize, n: usize) -> u32
     requires { ⌜ (Sound (now s)) × (start + n ≤ cellRoom) ⌝ }
     ensures { λ r. ⌜ r ≡ countUndecided (assigned (now (s .entry))) (run (now (s .entry)) start n) ⌝ }
 {
@@ -56,7 +56,7 @@ fn count_free(s: &[u32], start: usize, n: usize) -> u32
     let mut i: usize = 0;
     while i < n {
         let x = read::candidate(s, start + i);
-        if assignment::is_free(s, x) {
+        if assignment::is_undecided(s, x) {
             count += 1;
         }
         i += 1;
@@ -81,11 +81,11 @@ fn list_frontier(s: &[u32], slot: usize) -> State
 {
     let start = wide(read::list_start(s, slot));
     let len = wide(read::list_length(s, slot));
-    let found = first_free(s, start, len);
+    let found = first_undecided(s, start, len);
     match found {
         Found::At(x) => {
             let name = candidates::name_at(s, slot);
-            let count = count_free(s, start, len);
+            let count = count_undecided(s, start, len);
             State::Frontier {
                 candidate: x,
                 name,

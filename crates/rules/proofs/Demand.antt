@@ -1,4 +1,5 @@
--- Demand 3. Assumes nothing.
+-- DEMAND 3 OVER THE RULES: every step from a fresh store keeps the invariant, and a synced store that has it answers as the walk.
+-- Assumes nothing.
 use mathlib.Core.Path.{_≡_, refl, ap, sym, _∙_, fun-ext}
 use mathlib.Core.Bool.{Bool, true, false, cond, _||_, false≢true}
 use mathlib.Core.List.{List, [], _∷_, _++_, append-assoc, append-nil}
@@ -10,12 +11,12 @@ use lib.Dec.{T, eqb, eqb→eq, ltb, ltb→lt}
 use borrow.Author.Tests.{ltb-false, eqb-false}
 use lib.ListN.{length, take, drop, length-append, length-take, take-append-drop}
 use lib.Seq.{take-append-le, take-append-add, drop-at, take-at}
+use Rattle.store.proofs.Choice.{of-true}
 use Rattle.rules.specs.Walk.{Value, Undecided, isTrue, Literal, CandidateList, flattened, firstTrue, frontier, Satisfied, Frontier, Dead, evaluate, Environment, member, walk}
-use Rattle.rules.specs.Queue.{Memo, Dirty, Known, Queue}
+use Rattle.rules.specs.Queue.{Cache, Dirty, Known, Queue}
 use Rattle.rules.specs.Sync.{Entry, valueOf, value, variables, meets}
 use Rattle.rules.specs.Invariant.{Reason, queued, idle, moved, held, sated, Fit, Holds}
 use Rattle.rules.specs.Store.{remade, Store, assigned, Synced, pushed, cut, touched, sync, asked, ask, tuned, loaded, behind, rank, inserted, registered, Step, same, push, undo, syncs, asks, tunes, loads, registers, Fresh, Reached, fresh, then}
-use Rattle.rules.proofs.Bools.{of-true}
 use Rattle.rules.proofs.Hold.{routes-holds}
 use Rattle.rules.proofs.Move.{member-left, member-right, move}
 use Rattle.rules.proofs.Kept.{ask-holds}
@@ -31,7 +32,6 @@ pub record Inv (t : Store) : Type 0 where
   pub holds : Holds (t .env) (value base) popped (t .queue)
 
 -- the assignment of a trail
-
 variables-append : (xs ys : List Entry) → variables (xs ++ ys) ≡ variables xs ++ variables ys
 unfolding variables
 variables-append [] ys = refl
@@ -66,25 +66,24 @@ value-keeps (d ∷ xs) ys v h = go (eqb v (d .variable)) h (value-keeps xs ys v)
     go false p ih = ih p
 
 -- lists that are empty by their lengths
-
 none : {A : Type 0} (xs ys : List A) (n : ℕ) → length (xs ++ ys) ≤ n → n ≤ length xs → ys ≡ []
 none xs [] n p q = refl
 none xs (y ∷ ys) n p q = absurd (let l : length (xs ++ (y ∷ ys)) ≡ length xs + suc (length ys) = length-append xs (y ∷ ys) in omega arith)
 
-pub none-popped : (t : Store) (i : Inv t) → Synced t → i .popped ≡ []
+none-popped : (t : Store) (i : Inv t) → Synced t → i .popped ≡ []
 none-popped t i s = none (variables (i .base)) (i .popped) (t .floor) (rw (i .mirror-is) at (s .none-popped)) (omega (arith, i .floor-is, length-variables (i .base)))
 
-pub none-new : (t : Store) (i : Inv t) → Synced t → i .new ≡ []
+none-new : (t : Store) (i : Inv t) → Synced t → i .new ≡ []
 none-new t i s = none (i .base) (i .new) (t .floor) (omega (arith, s .none-popped, s .none-pushed, ap length (i .trail-is))) (omega (arith, i .floor-is))
 
+-- WHERE A STORE IS SYNCED nothing is left to route
 pub synced-holds : (t : Store) → Inv t → Synced t → Holds (t .env) (assigned t) [] (t .queue)
 synced-holds t i s =
     let same-trail : t .trail ≡ i .base = i .trail-is ∙ rw (none-new t i s) (append-nil (i .base)) in
     rw same-trail (rw (none-popped t i s) at (i .holds))
 
 -- a synced store answers as the walk
-
-pub answers : (t : Store) → Inv t → Synced t → (asked t) .out ≡ walk (t .env) (assigned t)
+answers : (t : Store) → Inv t → Synced t → (asked t) .out ≡ walk (t .env) (assigned t)
 answers t i s =
     ask-holds (t .env) (assigned t) (t .queue) (synced-holds t i s) .0
 
@@ -188,7 +187,7 @@ ask-inv t s i =
     }
 
 -- a clause keeps its reason at another rank
-carry : (e f : Environment) (a : ℕ → Value) (W : List ℕ) (s u : Queue) (k j : ℕ) → f .parent j ≡ e .parent k → f .condition j ≡ e .condition k → f .requirement j ≡ e .requirement k → u .mark j ≡ s .mark k → u .memo ≡ s .memo → Reason e a W s k → Reason f a W u j
+carry : (e f : Environment) (a : ℕ → Value) (W : List ℕ) (s u : Queue) (k j : ℕ) → f .parent j ≡ e .parent k → f .condition j ≡ e .condition k → f .requirement j ≡ e .requirement k → u .mark j ≡ s .mark k → u .cache ≡ s .cache → Reason e a W s k → Reason f a W u j
 carry e f a W s u k j p w r m c (queued h) = queued (m ∙ h)
 carry e f a W s u k j p w r m c (idle h) = idle (rw p h)
 carry e f a W s u k j p w r m c (moved h) = moved (rw p h)
@@ -214,7 +213,7 @@ tune-inv t f h m i =
     (record { reason = λ k p. carry (t .env) ((tuned t f h m) .env) (value (i .base)) (i .popped) (t .queue) (t .queue) k k refl refl refl refl refl (i .holds .reason k p); fit = i .holds .fit })
 
 -- a requirement with no lists has a dirty cache
-bare : (a : ℕ → Value) (W : List ℕ) (cs : List CandidateList) (m : Memo) → cs ≡ [] → Fit a W cs m → m ≡ Dirty
+bare : (a : ℕ → Value) (W : List ℕ) (cs : List CandidateList) (m : Cache) → cs ≡ [] → Fit a W cs m → m ≡ Dirty
 unfolding flattened member meets evaluate firstTrue frontier
 bare a W cs Dirty p f = refl
 bare a W cs (Known (Satisfied x)) p f = absurd (let z : T (member x (flattened [])) = rw p at (f .0) in z)
@@ -229,9 +228,9 @@ load-inv t r cs h i =
       fit = λ j. at-j j (eqb j r) refl;
     })
   where
-    at-j : (j : ℕ) (b : Bool) → eqb j r ≡ b → Fit (value (i .base)) (i .popped) (cond (eqb j r) cs (t .env .lists j)) (t .queue .memo j)
+    at-j : (j : ℕ) (b : Bool) → eqb j r ≡ b → Fit (value (i .base)) (i .popped) (cond (eqb j r) cs (t .env .lists j)) (t .queue .cache j)
     at-j j true p =
-        let z : t .queue .memo j ≡ Dirty = bare (value (i .base)) (i .popped) (t .env .lists j) (t .queue .memo j) (rw (eqb→eq j r (rw p tt)) h) (i .holds .fit j) in
+        let z : t .queue .cache j ≡ Dirty = bare (value (i .base)) (i .popped) (t .env .lists j) (t .queue .cache j) (rw (eqb→eq j r (rw p tt)) h) (i .holds .fit j) in
         rw z tt
     at-j j false p = rw p (i .holds .fit j)
 
@@ -321,14 +320,16 @@ step-inv t _ (tunes f h m) i = tune-inv t f h m i
 step-inv t _ (loads r cs h) i = load-inv t r cs h i
 step-inv t _ (registers p r w c) i = register-inv t p r w c i
 
+-- EVERY REACHED STORE HAS THE INVARIANT
 pub reached-inv : (t : Store) → Reached t → Inv t
 reached-inv t (fresh f) = fresh-inv t f
 reached-inv t (then {t = u} r s) = step-inv u t s (reached-inv u r)
 
--- DEMAND 3
+-- DEMAND 3: the proposal of a reached and synced store is the walk's
 pub demand3 : (t : Store) → Reached t → Synced t → (asked t) .out ≡ walk (t .env) (assigned t)
 demand3 t r s = answers t (reached-inv t r) s
 
+-- and so two of them with the same clauses, tables, settings and assignment answer alike
 pub comes-back : (t u : Store) → Reached t → Synced t → Reached u → Synced u → t .env ≡ u .env → ((v : ℕ) → assigned t v ≡ assigned u v) → (asked t) .out ≡ (asked u) .out
 comes-back t u r s q z e a =
     demand3 t r s ∙ ap (λ (f : Environment). walk f (assigned t)) e ∙ ap (λ (f : ℕ → Value). walk (u .env) f) (fun-ext a) ∙ sym (demand3 u q z)

@@ -1,14 +1,14 @@
--- The drops are the queue's size before less after. For any state; G is what is known of it. Assumes nothing.
+-- THE DROPS ARE THE QUEUE'S SIZE BEFORE LESS AFTER. For any state; G is what is known of it. Assumes nothing.
 use mathlib.Core.Path.{_≡_, refl, ap, sym, _∙_}
 use mathlib.Core.Bool.{Bool, true, false, cond, _||_, false≢true}
 use mathlib.Core.List.{List, [], _∷_}
 use Prim.Native.Nat.{ℕ, suc, _+_}
 use native.Mathlib.Omega.{arith}
 use lib.Dec.{eqb, eqb→eq, eqb-refl}
-use Rattle.rules.specs.Walk.{ranks, Value, Seen, Shut, Open, Gone, Environment, Best, best, stops, passedOver, better, Out, Nothing, DeadClause, Choose, member}
-use Rattle.rules.specs.Queue.{Answer, Operations, answer, queuedFrom, queuedOn, queueOperations, fill}
-use Rattle.rules.specs.Store.{Store, assigned, asked, ask}
-use Rattle.rules.proofs.Bools.{is-true, or-right}
+use Rattle.rules.specs.Walk.{ranks, Value, Environment, Best, best, stops, passedOver, better, Out, Nothing, DeadClause, Choose, member}
+use Rattle.rules.specs.Queue.{Answer, Operations, Queue, answer, propose, queuedFrom, queuedOn, queueOperations}
+use Rattle.rules.proofs.Cases.{by-seen, by-test}
+use Rattle.store.proofs.Choice.{is-true, or-right}
 use Rattle.rules.proofs.Ranks.{Once, ranks-once}
 
 abbrev pub bit : Bool → ℕ
@@ -29,17 +29,17 @@ tally-same f g (k ∷ ks) h =
     later j t = or-right (eqb j k) (member j ks) t
 
 -- what the four operations do to the marks
-pub record Marks {S : Type 0} (o : Operations S) (G : S → Type 0) : Type 0 where
-  pub fill-mark : (s : S) (k j : ℕ) → G s → o .mark (o .fill s k) j ≡ o .mark s j
-  pub drop-mark : (s : S) (k j : ℕ) → G s → o .mark (o .drop s k) j ≡ cond (eqb j k) false (o .mark s j)
-  pub fill-good : (s : S) (k : ℕ) → G s → G (o .fill s k)
-  pub drop-good : (s : S) (k : ℕ) → G s → G (o .drop s k)
+record Marks {S : Type 0} (o : Operations S) (G : S → Type 0) : Type 0 where
+  fill-mark : (s : S) (k j : ℕ) → G s → o .mark (o .fill s k) j ≡ o .mark s j
+  drop-mark : (s : S) (k j : ℕ) → G s → o .mark (o .drop s k) j ≡ cond (eqb j k) false (o .mark s j)
+  fill-good : (s : S) (k : ℕ) → G s → G (o .fill s k)
+  drop-good : (s : S) (k : ℕ) → G s → G (o .drop s k)
 
 module _ {S : Type 0} (o : Operations S) (e : Environment) (G : S → Type 0) (ok : Marks o G) where
   -- an answer over ks: other marks stay, and each drop is one mark less
-  pub record Fair (ks : List ℕ) (d : ℕ) (s : S) (x : Answer S) : Type 0 where
-    pub others : (j : ℕ) → member j ks ≡ false → o .mark (x .left) j ≡ o .mark s j
-    pub count : tally (o .mark s) ks + d ≡ tally (o .mark (x .left)) ks + x .drops
+  record Fair (ks : List ℕ) (d : ℕ) (s : S) (x : Answer S) : Type 0 where
+    others : (j : ℕ) → member j ks ≡ false → o .mark (x .left) j ≡ o .mark s j
+    count : tally (o .mark s) ks + d ≡ tally (o .mark (x .left)) ks + x .drops
 
   stays : (ks : List ℕ) (d : ℕ) (s : S) (y : Out) → Fair ks d s (answer y d s)
   stays ks d s y = record { others = λ j h. refl; count = refl }
@@ -102,60 +102,40 @@ module _ {S : Type 0} (o : Operations S) (e : Environment) (G : S → Type 0) (o
               (omega (arith, f .count, tally-same (o .mark (o .drop (o .fill s k) k)) (o .mark s) ks (λ j t. after-drop j (rest-differs j t))));
         }
 
-  module _ (b : Best) (k : ℕ) (ks : List ℕ) (once : Once (k ∷ ks)) (d : ℕ) (s : S) (g : G s)
-      (ih : (b : Best) (d : ℕ) (s : S) → G s → Fair ks d s (queuedOn o e b ks d s)) where
-    fair-seen : (v : Seen) → o .seen s k ≡ v → stops e b ≡ false → passedOver e b k ≡ false → o .mark s k ≡ true → Fair (k ∷ ks) d s (queuedOn o e b (k ∷ ks) d s)
-    unfolding queuedOn
-    fair-seen Shut p h i j =
-        rw (h, i, j, p, queuedOn) (dropped k ks once d s g _ j (ih b (suc d) (o .drop (o .fill s k) k) (ok .drop-good (o .fill s k) k (ok .fill-good s k g))))
-    fair-seen (Open x n m) p h i j =
-        rw (h, i, j, p, queuedOn)
-        (filled k ks once d s g _ (skip k ks once d (o .fill s k) (ok .fill-good s k g) _ (ih (better b (best e k x n m)) d (o .fill s k) (ok .fill-good s k g))))
-    fair-seen Gone p h i j = rw (h, i, j, p, queuedOn) (filled k ks once d s g _ (stays (k ∷ ks) d (o .fill s k) (DeadClause (e .clauseId k))))
-
-    fair-mark : (m : Bool) → o .mark s k ≡ m → stops e b ≡ false → passedOver e b k ≡ false → Fair (k ∷ ks) d s (queuedOn o e b (k ∷ ks) d s)
-    unfolding queuedOn
-    fair-mark true q h i = fair-seen (o .seen s k) refl h i q
-    fair-mark false q h i = rw (h, i, q, queuedOn) (skip k ks once d s g _ (ih b d s g))
-
-    fair-passed : (t : Bool) → passedOver e b k ≡ t → stops e b ≡ false → Fair (k ∷ ks) d s (queuedOn o e b (k ∷ ks) d s)
-    unfolding queuedOn
-    fair-passed true q h = rw (h, q, queuedOn) (skip k ks once d s g _ (ih b d s g))
-    fair-passed false q h = fair-mark (o .mark s k) refl h q
-
-    fair-stop : (t : Bool) → stops e b ≡ t → Fair (k ∷ ks) d s (queuedOn o e b (k ∷ ks) d s)
-    unfolding queuedOn
-    fair-stop true q = rw (q, queuedOn) (stays (k ∷ ks) d s (Choose b))
-    fair-stop false q = fair-passed (passedOver e b k) refl q
-
   fair-on : (b : Best) (ks : List ℕ) → Once ks → (d : ℕ) (s : S) → G s → Fair ks d s (queuedOn o e b ks d s)
   unfolding queuedOn
   fair-on b [] once d s g = stays [] d s (Choose b)
-  fair-on b (k ∷ ks) once d s g = fair-stop b k ks once d s g (λ b′ d′ s′ g′. fair-on b′ ks (once .1) d′ s′ g′) (stops e b) refl
-
-  module _ (k : ℕ) (ks : List ℕ) (once : Once (k ∷ ks)) (d : ℕ) (s : S) (g : G s)
-      (ih : (d : ℕ) (s : S) → G s → Fair ks d s (queuedFrom o e ks d s)) where
-    fair-seen-first : (v : Seen) → o .seen s k ≡ v → o .mark s k ≡ true → Fair (k ∷ ks) d s (queuedFrom o e (k ∷ ks) d s)
-    unfolding queuedFrom
-    fair-seen-first Shut p j =
-        rw (j, p, queuedFrom) (dropped k ks once d s g _ j (ih (suc d) (o .drop (o .fill s k) k) (ok .drop-good (o .fill s k) k (ok .fill-good s k g))))
-    fair-seen-first (Open x n m) p j =
-        rw (j, p, queuedFrom)
-        (filled k ks once d s g _ (skip k ks once d (o .fill s k) (ok .fill-good s k g) _ (fair-on (best e k x n m) ks (once .1) d (o .fill s k) (ok .fill-good s k g))))
-    fair-seen-first Gone p j = rw (j, p, queuedFrom) (filled k ks once d s g _ (stays (k ∷ ks) d (o .fill s k) (DeadClause (e .clauseId k))))
-
-    fair-mark-first : (m : Bool) → o .mark s k ≡ m → Fair (k ∷ ks) d s (queuedFrom o e (k ∷ ks) d s)
-    unfolding queuedFrom
-    fair-mark-first true q = fair-seen-first (o .seen s k) refl q
-    fair-mark-first false q = rw (q, queuedFrom) (skip k ks once d s g _ (ih d s g))
+  fair-on b (k ∷ ks) once d s g =
+      let good : G (o .fill s k) = ok .fill-good s k g in
+      by-test (Fair (k ∷ ks) d s) (stops e b) _ _ (λ h. stays (k ∷ ks) d s (Choose b))
+      (λ h.
+      by-test (Fair (k ∷ ks) d s) (passedOver e b k) _ _ (λ i. skip k ks once d s g _ (fair-on b ks (once .1) d s g))
+      (λ i.
+      by-test (Fair (k ∷ ks) d s) (o .mark s k) _ _
+      (λ m.
+      by-seen (Fair (k ∷ ks) d s) (o .seen s k) _ _ _
+      (λ q. dropped k ks once d s g _ m (fair-on b ks (once .1) (suc d) (o .drop (o .fill s k) k) (ok .drop-good (o .fill s k) k good)))
+      (λ c n z q.
+      filled k ks once d s g _ (skip k ks once d (o .fill s k) good _ (fair-on (better b (best e k c n z)) ks (once .1) d (o .fill s k) good)))
+      (λ q. filled k ks once d s g _ (stays (k ∷ ks) d (o .fill s k) (DeadClause (e .clauseId k)))))
+      (λ m. skip k ks once d s g _ (fair-on b ks (once .1) d s g))))
 
   fair-from : (ks : List ℕ) → Once ks → (d : ℕ) (s : S) → G s → Fair ks d s (queuedFrom o e ks d s)
   unfolding queuedFrom
   fair-from [] once d s g = stays [] d s Nothing
-  fair-from (k ∷ ks) once d s g = fair-mark-first k ks once d s g (λ d′ s′ g′. fair-from ks (once .1) d′ s′ g′) (o .mark s k) refl
+  fair-from (k ∷ ks) once d s g =
+      let good : G (o .fill s k) = ok .fill-good s k g in
+      by-test (Fair (k ∷ ks) d s) (o .mark s k) _ _
+      (λ m.
+      by-seen (Fair (k ∷ ks) d s) (o .seen s k) _ _ _
+      (λ q. dropped k ks once d s g _ m (fair-from ks (once .1) (suc d) (o .drop (o .fill s k) k) (ok .drop-good (o .fill s k) k good)))
+      (λ c n z q. filled k ks once d s g _ (skip k ks once d (o .fill s k) good _ (fair-on (best e k c n z) ks (once .1) d (o .fill s k) good)))
+      (λ q. filled k ks once d s g _ (stays (k ∷ ks) d (o .fill s k) (DeadClause (e .clauseId k)))))
+      (λ m. skip k ks once d s g _ (fair-from ks (once .1) d s g))
 
   -- THE DROPS: the size of the queue before is the size after and the drops
-  pub drops-are : (s : S) → G s → tally (o .mark s) (ranks (e .size)) ≡ tally (o .mark ((queuedFrom o e (ranks (e .size)) 0 s) .left)) (ranks (e .size)) + (queuedFrom o e (ranks (e .size)) 0 s) .drops
+  drops-are : (s : S) → G s →
+      tally (o .mark s) (ranks (e .size)) ≡ tally (o .mark ((queuedFrom o e (ranks (e .size)) 0 s) .left)) (ranks (e .size)) + (queuedFrom o e (ranks (e .size)) 0 s) .drops
   drops-are s g = omega (arith, (fair-from (ranks (e .size)) (ranks-once (e .size)) 0 s g) .count)
 
 queue-marks : (e : Environment) (a : ℕ → Value) → Marks (queueOperations e a) (λ s. Unit {0})
@@ -172,5 +152,6 @@ queue-marks e a =
     by false m = refl
 
 -- THE DROPS of a proposal: the queue's size before is its size after and the drops
-pub drops-of : (t : Store) → tally (t .queue .mark) (ranks (t .env .size)) ≡ tally ((ask t) .queue .mark) (ranks (t .env .size)) + (asked t) .drops
-drops-of t = drops-are (queueOperations (t .env) (assigned t)) (t .env) (λ s. Unit {0}) (queue-marks (t .env) (assigned t)) (t .queue) tt
+pub drops-of : (e : Environment) (a : ℕ → Value) (s : Queue) →
+    tally (s .mark) (ranks (e .size)) ≡ tally ((propose e a s) .left .mark) (ranks (e .size)) + (propose e a s) .drops
+drops-of e a s = drops-are (queueOperations e a) e (λ s. Unit {0}) (queue-marks e a) s tt

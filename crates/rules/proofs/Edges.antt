@@ -1,4 +1,4 @@
--- Document 01's edges P1 to P9 and two of its wrong turns, over the definitions. Assumes nothing.
+-- DOCUMENT 01'S EDGES P1 TO P9, AND TWO OF ITS WRONG TURNS, over the rules. Assumes nothing.
 use mathlib.Core.Path.{_≡_, refl}
 use mathlib.Core.Bool.{true, false, cond, _||_}
 use mathlib.Core.List.{List, [], _∷_, map}
@@ -37,7 +37,7 @@ start =
       trail = [];
       mirror = [];
       floor = 0;
-      queue = record { mark = λ k. false; memo = λ r. Dirty };
+      queue = record { mark = λ k. false; cache = λ r. Dirty };
     }
 
 yes! : ℕ → Entry

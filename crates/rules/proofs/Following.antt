@@ -2,13 +2,13 @@
 -- clauses alike, with the same drops, and are left following each other. Assumes nothing.
 use mathlib.Core.Bool.{Bool, true, false}
 use mathlib.Core.List.{List, [], _∷_}
-use mathlib.Core.Path.{_≡_, refl, ap, _∙_}
+use mathlib.Core.Path.{_≡_, refl, ap, sym, _∙_}
 use Prim.Native.Nat.{ℕ, suc, _<_}
-use lib.Dec.{T}
+use Rattle.rules.proofs.Cases.{by-seen, by-test}
 use Rattle.rules.proofs.Kept.{Stands}
-use Rattle.rules.proofs.Ranks.{member-head, member-tail, ranks-below}
+use Rattle.rules.proofs.Ranks.{Below, below-head, below-tail, ranks-below}
 use Rattle.rules.specs.Queue.{Answer, Operations, Queue, fill, queueOperations, queuedFrom, queuedOn, seen, unmark}
-use Rattle.rules.specs.Walk.{Environment, best, better, member, passedOver, ranks, stops}
+use Rattle.rules.specs.Walk.{Environment, best, better, passedOver, ranks, stops}
 use Rattle.rules.specs.declared.Best.{Best}
 use Rattle.rules.specs.declared.Seen.{Seen}
 use Rattle.rules.specs.declared.Seen.the-variants.{Shut, Open, Gone}
@@ -22,76 +22,54 @@ pub record Follows {S : Type 0} {Q : Type 0} (o : Operations S) (p : Operations 
   pub drop-same : (s : S) (q : Q) (k : ℕ) → k < e .size → R s q → R (o .drop s k) (p .drop q k)
 
 module _ {S : Type 0} {Q : Type 0} (o : Operations S) (p : Operations Q) (e : Environment) (R : S → Q → Type 0) (ok : Follows o p e R) where
-  abbrev Both : Answer S → Answer Q → Type 0
-  Both x y = (x .out ≡ y .out) × (x .drops ≡ y .drops) × R (x .left) (y .left)
+  abbrev Both : Answer Q → Answer S → Type 0
+  Both y x = (x .out ≡ y .out) × (x .drops ≡ y .drops) × R (x .left) (y .left)
 
-  abbrev All : List ℕ → Type 0
-  All ks = (k : ℕ) → T (member k ks) → k < e .size
-
-  -- one clause after the first best
-  module _ (b : Best) (k : ℕ) (ks : List ℕ) (d : ℕ) (s : S) (q : Q) (here : k < e .size) (r : R s q)
-      (ih : (b : Best) (d : ℕ) (s : S) (q : Q) → R s q → Both (queuedOn o e b ks d s) (queuedOn p e b ks d q)) where
-    abbrev StepOn : Type 0
-    StepOn = Both (queuedOn o e b (k ∷ ks) d s) (queuedOn p e b (k ∷ ks) d q)
-
-    on-seen : (v : Seen) → o .seen s k ≡ v → p .seen q k ≡ v → stops e b ≡ false → passedOver e b k ≡ false → o .mark s k ≡ true → p .mark q k ≡ true → StepOn
-    unfolding queuedOn
-    on-seen Shut x y h i m n =
-        rw (h, i, m, n, x, y, queuedOn) (ih b (suc d) (o .drop (o .fill s k) k) (p .drop (p .fill q k) k) (ok .drop-same (o .fill s k) (p .fill q k) k here (ok .fill-same s q k here r)))
-    on-seen (Open c u z) x y h i m n = rw (h, i, m, n, x, y, queuedOn) (ih (better b (best e k c u z)) d (o .fill s k) (p .fill q k) (ok .fill-same s q k here r))
-    on-seen Gone x y h i m n = rw (h, i, m, n, x, y, queuedOn) (refl, refl, ok .fill-same s q k here r)
-
-    on-mark : (t : Bool) → p .mark q k ≡ t → stops e b ≡ false → passedOver e b k ≡ false → StepOn
-    unfolding queuedOn
-    on-mark true m h i = on-seen (p .seen q k) (ok .seen-same s q k here r) refl h i (ok .mark-same s q k here r ∙ m) m
-    on-mark false m h i = rw (h, i, ok .mark-same s q k here r ∙ m, m, queuedOn) (ih b d s q r)
-
-    on-passed : (t : Bool) → passedOver e b k ≡ t → stops e b ≡ false → StepOn
-    unfolding queuedOn
-    on-passed true i h = rw (h, i, queuedOn) (ih b d s q r)
-    on-passed false i h = on-mark (p .mark q k) refl h i
-
-    on-stop : (t : Bool) → stops e b ≡ t → StepOn
-    unfolding queuedOn
-    on-stop true h = rw (h, queuedOn) (refl, refl, r)
-    on-stop false h = on-passed (passedOver e b k) refl h
-
-  both-on : (b : Best) (ks : List ℕ) (d : ℕ) (s : S) (q : Q) → All ks → R s q → Both (queuedOn o e b ks d s) (queuedOn p e b ks d q)
+  both-on : (b : Best) (ks : List ℕ) (d : ℕ) (s : S) (q : Q) → Below (e .size) ks → R s q → Both (queuedOn p e b ks d q) (queuedOn o e b ks d s)
   unfolding queuedOn
   both-on b [] d s q all r = (refl, refl, r)
   both-on b (k ∷ ks) d s q all r =
-      on-stop b k ks d s q (all k (member-head k ks)) r (λ b′ d′ s′ q′ r′. both-on b′ ks d′ s′ q′ (λ j t. all j (member-tail j k ks t)) r′) (stops e b) refl
+      let here : k < e .size = below-head (e .size) k ks all in
+      let rest : Below (e .size) ks = below-tail (e .size) k ks all in
+      let marked : (t : Bool) → o .mark s k ≡ t → p .mark q k ≡ t = λ t m. sym (ok .mark-same s q k here r) ∙ m in
+      let found : (v : Seen) → o .seen s k ≡ v → p .seen q k ≡ v = λ v x. sym (ok .seen-same s q k here r) ∙ x in
+      let filled : R (o .fill s k) (p .fill q k) = ok .fill-same s q k here r in
+      by-test (Both (queuedOn p e b (k ∷ ks) d q)) (stops e b) _ _ (λ h. rw (h, queuedOn) (refl, refl, r))
+      (λ h.
+      by-test (Both (queuedOn p e b (k ∷ ks) d q)) (passedOver e b k) _ _ (λ i. rw (h, i, queuedOn) (both-on b ks d s q rest r))
+      (λ i.
+      by-test (Both (queuedOn p e b (k ∷ ks) d q)) (o .mark s k) _ _
+      (λ m.
+      by-seen (Both (queuedOn p e b (k ∷ ks) d q)) (o .seen s k) _ _ _
+      (λ x.
+      rw (h, i, marked true m, found Shut x, queuedOn)
+      (both-on b ks (suc d) (o .drop (o .fill s k) k) (p .drop (p .fill q k) k) rest (ok .drop-same (o .fill s k) (p .fill q k) k here filled)))
+      (λ c n z x.
+      rw (h, i, marked true m, found (Open c n z) x, queuedOn) (both-on (better b (best e k c n z)) ks d (o .fill s k) (p .fill q k) rest filled))
+      (λ x. rw (h, i, marked true m, found Gone x, queuedOn) (refl, refl, filled)))
+      (λ m. rw (h, i, marked false m, queuedOn) (both-on b ks d s q rest r))))
 
-  -- one clause on the way to the first best
-  module _ (k : ℕ) (ks : List ℕ) (d : ℕ) (s : S) (q : Q) (all : All (k ∷ ks)) (r : R s q)
-      (ih : (d : ℕ) (s : S) (q : Q) → R s q → Both (queuedFrom o e ks d s) (queuedFrom p e ks d q)) where
-    abbrev StepFirst : Type 0
-    StepFirst = Both (queuedFrom o e (k ∷ ks) d s) (queuedFrom p e (k ∷ ks) d q)
-
-    here : k < e .size
-    here = all k (member-head k ks)
-
-    first-seen : (v : Seen) → o .seen s k ≡ v → p .seen q k ≡ v → o .mark s k ≡ true → p .mark q k ≡ true → StepFirst
-    unfolding queuedFrom
-    first-seen Shut x y m n =
-        rw (m, n, x, y, queuedFrom) (ih (suc d) (o .drop (o .fill s k) k) (p .drop (p .fill q k) k) (ok .drop-same (o .fill s k) (p .fill q k) k here (ok .fill-same s q k here r)))
-    first-seen (Open c u z) x y m n =
-        rw (m, n, x, y, queuedFrom) (both-on (best e k c u z) ks d (o .fill s k) (p .fill q k) (λ j t. all j (member-tail j k ks t)) (ok .fill-same s q k here r))
-    first-seen Gone x y m n = rw (m, n, x, y, queuedFrom) (refl, refl, ok .fill-same s q k here r)
-
-    first-mark : (t : Bool) → p .mark q k ≡ t → StepFirst
-    unfolding queuedFrom
-    first-mark true m = first-seen (p .seen q k) (ok .seen-same s q k here r) refl (ok .mark-same s q k here r ∙ m) m
-    first-mark false m = rw (ok .mark-same s q k here r ∙ m, m, queuedFrom) (ih d s q r)
-
-  both-from : (ks : List ℕ) (d : ℕ) (s : S) (q : Q) → All ks → R s q → Both (queuedFrom o e ks d s) (queuedFrom p e ks d q)
+  both-from : (ks : List ℕ) (d : ℕ) (s : S) (q : Q) → Below (e .size) ks → R s q → Both (queuedFrom p e ks d q) (queuedFrom o e ks d s)
   unfolding queuedFrom
   both-from [] d s q all r = (refl, refl, r)
   both-from (k ∷ ks) d s q all r =
-      first-mark k ks d s q all r (λ d′ s′ q′ r′. both-from ks d′ s′ q′ (λ j t. all j (member-tail j k ks t)) r′) (p .mark q k) refl
+      let here : k < e .size = below-head (e .size) k ks all in
+      let rest : Below (e .size) ks = below-tail (e .size) k ks all in
+      let marked : (t : Bool) → o .mark s k ≡ t → p .mark q k ≡ t = λ t m. sym (ok .mark-same s q k here r) ∙ m in
+      let found : (v : Seen) → o .seen s k ≡ v → p .seen q k ≡ v = λ v x. sym (ok .seen-same s q k here r) ∙ x in
+      let filled : R (o .fill s k) (p .fill q k) = ok .fill-same s q k here r in
+      by-test (Both (queuedFrom p e (k ∷ ks) d q)) (o .mark s k) _ _
+      (λ m.
+      by-seen (Both (queuedFrom p e (k ∷ ks) d q)) (o .seen s k) _ _ _
+      (λ x.
+      rw (marked true m, found Shut x, queuedFrom)
+      (both-from ks (suc d) (o .drop (o .fill s k) k) (p .drop (p .fill q k) k) rest (ok .drop-same (o .fill s k) (p .fill q k) k here filled)))
+      (λ c n z x. rw (marked true m, found (Open c n z) x, queuedFrom) (both-on (best e k c n z) ks d (o .fill s k) (p .fill q k) rest filled))
+      (λ x. rw (marked true m, found Gone x, queuedFrom) (refl, refl, filled)))
+      (λ m. rw (marked false m, queuedFrom) (both-from ks d s q rest r))
 
   -- THE WALK ANSWERS ALIKE
-  pub both-walk : (s : S) (q : Q) → R s q → Both (queuedFrom o e (ranks (e .size)) 0 s) (queuedFrom p e (ranks (e .size)) 0 q)
+  pub both-walk : (s : S) (q : Q) → R s q → Both (queuedFrom p e (ranks (e .size)) 0 q) (queuedFrom o e (ranks (e .size)) 0 s)
   both-walk s q r = both-from (ranks (e .size)) 0 s q (ranks-below (e .size)) r
 
 -- words that stand for a queue follow it

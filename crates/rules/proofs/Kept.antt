@@ -1,4 +1,4 @@
--- The proposal keeps the invariant. Assumes nothing.
+-- A PROPOSAL KEEPS THE INVARIANT and answers as the walk: over a queue, and over any state that stands for one. Assumes nothing.
 use mathlib.Core.Path.{_≡_, refl, ap, sym, _∙_}
 use mathlib.Core.Bool.{Bool, true, false, not, cond, _&&_, _||_, false≢true}
 use mathlib.Core.List.{List, [], _∷_}
@@ -6,9 +6,9 @@ use mathlib.Core.Logic.{_⊎_, inr, ⊎-elim}
 use Prim.Native.Nat.{ℕ, _<_}
 use lib.Dec.{T, eqb, eqb→eq, eqb-refl}
 use Rattle.rules.specs.Walk.{ranks, Value, Undecided, True, False, isTrue, Literal, literalFalse, allFalse, CandidateList, flattened, Found, At, Nowhere, firstTrue, firstUndecided, countUndecided, frontier, orElse, orNext, State, Satisfied, Frontier, Dead, evaluate, Shut, seenAs, Environment, active, walk, member}
-use Rattle.rules.specs.Queue.{Memo, Dirty, Known, Queue, unmark, stateIn, keep, seen, fill, Operations, queueOperations, queuedFrom, propose}
+use Rattle.rules.specs.Queue.{Cache, Dirty, Known, Queue, unmark, stateIn, keep, seen, fill, Operations, queueOperations, queuedFrom, propose}
 use Rattle.rules.specs.Invariant.{heldBy, Reason, queued, idle, moved, held, sated, Fit, Holds}
-use Rattle.rules.proofs.Bools.{or-inr, is-true}
+use Rattle.store.proofs.Choice.{is-true, or-inr}
 use Rattle.rules.proofs.Ranks.{member-head}
 use Rattle.rules.proofs.Same.{Sound, same-walk}
 use Rattle.rules.proofs.Hold.{holds-covers, seen-look}
@@ -63,18 +63,18 @@ seen-shut (Frontier x n m) h = absurd (false≢true (cc))
 seen-shut Dead h = absurd (false≢true (cc))
 
 module _ (e : Environment) (a : ℕ → Value) (s : Queue) (h : Holds e a [] s) (k : ℕ) where
-  fill-fit : (r : ℕ) (b : Bool) (m : Memo) → Fit a [] (e .lists r) m → Fit a [] (e .lists r) (elim b [ true ↦ keep (stateIn m (evaluate a (e .lists r))) | false ↦ m ])
+  fill-fit : (r : ℕ) (b : Bool) (m : Cache) → Fit a [] (e .lists r) m → Fit a [] (e .lists r) (elim b [ true ↦ keep (stateIn m (evaluate a (e .lists r))) | false ↦ m ])
   fill-fit r false m f = f
   fill-fit r true Dirty f = keep-fit a (e .lists r) (evaluate a (e .lists r)) refl
   fill-fit r true (Known (Satisfied x)) f = f
   fill-fit r true (Known (Frontier x n m)) f = f
   fill-fit r true (Known Dead) f = absurd f
 
-  fill-satisfied : (r x : ℕ) (b : Bool) (m : Memo) → m ≡ Known (Satisfied x) → _≡_ {A = Memo} (elim b [ true ↦ keep (stateIn m (evaluate a (e .lists r))) | false ↦ m ]) (Known (Satisfied x))
+  fill-satisfied : (r x : ℕ) (b : Bool) (m : Cache) → m ≡ Known (Satisfied x) → _≡_ {A = Cache} (elim b [ true ↦ keep (stateIn m (evaluate a (e .lists r))) | false ↦ m ]) (Known (Satisfied x))
   fill-satisfied r x false m p = p
   fill-satisfied r x true m p = rw (p, keep, stateIn)
 
-  fill-new : (r x : ℕ) (b : Bool) (m : Memo) → b ≡ true → stateIn m (evaluate a (e .lists r)) ≡ Satisfied x → _≡_ {A = Memo} (elim b [ true ↦ keep (stateIn m (evaluate a (e .lists r))) | false ↦ m ]) (Known (Satisfied x))
+  fill-new : (r x : ℕ) (b : Bool) (m : Cache) → b ≡ true → stateIn m (evaluate a (e .lists r)) ≡ Satisfied x → _≡_ {A = Cache} (elim b [ true ↦ keep (stateIn m (evaluate a (e .lists r))) | false ↦ m ]) (Known (Satisfied x))
   fill-new r x false m p q = absurd (false≢true p)
   fill-new r x true m p q = rw (q, keep)
 
@@ -83,10 +83,10 @@ module _ (e : Environment) (a : ℕ → Value) (s : Queue) (h : Holds e a [] s) 
   fill-reason j (idle p) = idle p
   fill-reason j (moved p) = moved p
   fill-reason j (held p) = held p
-  fill-reason j (sated x p) = sated x (fill-satisfied (e .requirement j) x (active e a k && eqb (e .requirement j) (e .requirement k)) (s .memo (e .requirement j)) p)
+  fill-reason j (sated x p) = sated x (fill-satisfied (e .requirement j) x (active e a k && eqb (e .requirement j) (e .requirement k)) (s .cache (e .requirement j)) p)
 
   fill-holds : Holds e a [] (fill e a s k)
-  fill-holds = record { reason = λ j t. fill-reason j (h .reason j t); fit = λ r. fill-fit r (active e a k && eqb r (e .requirement k)) (s .memo r) (h .fit r) }
+  fill-holds = record { reason = λ j t. fill-reason j (h .reason j t); fit = λ r. fill-fit r (active e a k && eqb r (e .requirement k)) (s .cache r) (h .fit r) }
 
   -- a clause that was found not open has a reason that is not its mark
   drop-reason : seen e a s k ≡ Shut → Reason e a [] (unmark (fill e a s k) k) k
@@ -97,10 +97,10 @@ module _ (e : Environment) (a : ℕ → Value) (s : Queue) (h : Holds e a [] s) 
       go false c q r = idle q
       go true false q r = held (not-held a (e .condition k) r)
       go true true q r =
-          let v : seenAs (stateIn (s .memo (e .requirement k)) (evaluate a (e .lists (e .requirement k)))) ≡ Shut = rw (q, r, seen) at p in
-          let x = seen-shut (stateIn (s .memo (e .requirement k)) (evaluate a (e .lists (e .requirement k)))) v in
+          let v : seenAs (stateIn (s .cache (e .requirement k)) (evaluate a (e .lists (e .requirement k)))) ≡ Shut = rw (q, r, seen) at p in
+          let x = seen-shut (stateIn (s .cache (e .requirement k)) (evaluate a (e .lists (e .requirement k)))) v in
           let on : active e a k && eqb (e .requirement k) (e .requirement k) ≡ true = rw (q, r, is-true (eqb (e .requirement k) (e .requirement k)) (eqb-refl (e .requirement k))) in
-          sated (x .0) (fill-new (e .requirement k) (x .0) (active e a k && eqb (e .requirement k) (e .requirement k)) (s .memo (e .requirement k)) on (x .1))
+          sated (x .0) (fill-new (e .requirement k) (x .0) (active e a k && eqb (e .requirement k) (e .requirement k)) (s .cache (e .requirement k)) on (x .1))
 
   drop-other : (j : ℕ) → seen e a s k ≡ Shut → Reason e a [] (fill e a s k) j → Reason e a [] (unmark (fill e a s k) k) j
   drop-other j p (queued q) = go (eqb j k) refl
@@ -129,7 +129,7 @@ sound e a =
       drops = λ s k t h p. drop-holds e a s h k (seen-look e a s k h ∙ p);
     }
 
--- a synced queue answers as the walk, and the invariant is kept
+-- A SYNCED QUEUE answers as the walk, and the invariant is kept
 pub ask-holds : (e : Environment) (a : ℕ → Value) (s : Queue) → Holds e a [] s → ((propose e a s) .out ≡ walk e a) × Holds e a [] ((propose e a s) .left)
 ask-holds e a s h = same-walk (queueOperations e a) e a (λ u. Holds e a [] u) (sound e a) s h
 
@@ -143,7 +143,7 @@ pub record Stands {S : Type 0} (o : Operations S) (e : Environment) (a : ℕ →
   pub fill-keeps : (s : S) (k : ℕ) → k < e .size → K s → K (o .fill s k)
   pub drop-keeps : (s : S) (k : ℕ) → k < e .size → K s → K (o .drop s k)
 
-pub stands-sound : {S : Type 0} (o : Operations S) (e : Environment) (a : ℕ → Value) (f : S → Queue) (K : S → Type 0) → Stands o e a f K → Sound o e a (λ s. K s × Holds e a [] (f s))
+stands-sound : {S : Type 0} (o : Operations S) (e : Environment) (a : ℕ → Value) (f : S → Queue) (K : S → Type 0) → Stands o e a f K → Sound o e a (λ s. K s × Holds e a [] (f s))
 stands-sound o e a f K x =
     record {
       sees = λ s k t g. x .seen-is s k t (g .0) ∙ sound e a .sees (f s) k t (g .1);

@@ -1,4 +1,4 @@
-pub mod Bools
+pub mod Cases
 pub mod Ranks
 pub mod Same
 pub mod Hold
@@ -14,5 +14,5 @@ pub mod Sweeps
 pub mod Position
 pub mod Order
 pub mod Placing
-pub mod Agreeing
 pub mod Following
+pub mod Chosen

@@ -1,4 +1,4 @@
--- The map of values is the trail's assignment: kept by a new assignment and by cutting the trail back. Assumes nothing.
+-- THE MAP OF VALUES IS THE TRAIL'S ASSIGNMENT: a new assignment and a pop keep it so. Assumes nothing.
 use mathlib.Core.Path.{_≡_, refl, sym, _∙_}
 use mathlib.Core.Bool.{Bool, true, false, cond, false≢true}
 use mathlib.Core.List.{List, [], _∷_, _++_}

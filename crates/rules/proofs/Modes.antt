@@ -1,6 +1,5 @@
--- Where no open clause is dead and every cold name's activity is zero, both modes answer the same.
--- Assumes nothing.
-use mathlib.Core.Path.{_≡_, refl, sym}
+-- BOTH MODES ANSWER THE SAME where no open clause is dead and every cold name's activity is zero. Assumes nothing.
+use mathlib.Core.Path.{_≡_, refl, sym, _∙_}
 use mathlib.Core.Bool.{Bool, true, false, not, _&&_, _||_, false≢true}
 use mathlib.Core.List.{List, [], _∷_}
 use mathlib.Core.Logic.{_⊎_, inl, inr}
@@ -8,9 +7,10 @@ use Prim.Native.Nat.{ℕ, zero, suc, _≤_, _<_, max}
 use native.Mathlib.Omega.{arith}
 use native.Mathlib.Decide.{decLe}
 use lib.Dec.{T, eqb, eqb→eq, eqb-refl, ltb, ltb→lt}
-use Rattle.rules.specs.Walk.{ranks, Value, CandidateList, Found, At, Nowhere, firstTrue, firstUndecided, countUndecided, flattened, frontier, orElse, orNext, State, Satisfied, Frontier, Dead, evaluate, Seen, Shut, Open, Gone, seenAs, Environment, active, anyHot, isHot, largest, look, Best, best, stops, passedOver, better, Choose, walkFrom, walkOn, walk, member, mode, named}
-use Rattle.rules.proofs.Bools.{or-cases, or-inl, or-inr, or-right}
-use Rattle.rules.proofs.Ranks.{member-head, member-tail, ranks-below}
+use Rattle.rules.specs.Walk.{ranks, Value, CandidateList, Found, At, Nowhere, firstTrue, firstUndecided, countUndecided, flattened, frontier, orElse, orNext, State, Satisfied, Frontier, Dead, evaluate, Seen, Shut, Open, Gone, seenAs, Environment, active, anyHot, isHot, largest, look, Best, best, stops, passedOver, better, Choose, walkFrom, walkOn, walk, mode, named}
+use Rattle.rules.proofs.Cases.{by-seen, by-test}
+use Rattle.store.proofs.Choice.{or-inl, or-inr, or-cases, or-right}
+use Rattle.rules.proofs.Ranks.{Below, below-head, below-tail, ranks-below}
 
 -- the name of a frontier is one of its requirement's names
 
@@ -70,15 +70,6 @@ no-better b d h = go (ltb (b .activity) (d .activity)) (ltb (d .count) (b .count
 module _ (e : Environment) (a : ℕ → Value) (alive : (k : ℕ) → k < e .size → look e a k ≡ Gone → ⊥)
     (cold : (n : ℕ) → e .hot n ≡ false → e .activity n ≡ 0)
     (range : (k n : ℕ) → k < e .size → T (named n (e .lists (e .requirement k))) → n < e .names) where
-  abbrev All : List ℕ → Type 0
-  All ks = (k : ℕ) → T (member k ks) → k < e .size
-
-  all-tail : (k : ℕ) (ks : List ℕ) → All (k ∷ ks) → All ks
-  all-tail k ks h j t = h j (member-tail j k ks t)
-
-  all-head : (k : ℕ) (ks : List ℕ) → All (k ∷ ks) → k < e .size
-  all-head k ks h = h k (member-head k ks)
-
   look-mode : (b : Bool) (k : ℕ) → look (mode e b) a k ≡ look e a k
   unfolding look
   look-mode b k = refl
@@ -90,26 +81,21 @@ module _ (e : Environment) (a : ℕ → Value) (alive : (k : ℕ) → k < e .siz
   cold-zero k x n m c h = cold n (cold-name (e .hot) (e .lists (e .requirement k)) n c (look-name e a k x n m h))
 
   -- a best of the largest activity stays, in the mode that goes on
-  stays : (b : Best) (ks : List ℕ) → All ks → b .activity ≡ largest (e .activity) (e .names) → walkOn (mode e false) a b ks ≡ Choose b
+  stays : (b : Best) (ks : List ℕ) → Below (e .size) ks → b .activity ≡ largest (e .activity) (e .names) → walkOn (mode e false) a b ks ≡ Choose b
   unfolding walkOn
   stays b [] all h = refl
-  stays b (k ∷ ks) all h = on-stop (stops (mode e false) b) refl (stays b ks (all-tail k ks all) h)
-    where
-      on-seen : (v : Seen) → look e a k ≡ v → stops (mode e false) b ≡ false → passedOver (mode e false) b k ≡ false → walkOn (mode e false) a b ks ≡ Choose b → walkOn (mode e false) a b (k ∷ ks) ≡ Choose b
-      on-seen Shut q s p ih = rw (s, p, look-mode false k, q, walkOn) ih
-      on-seen (Open x n m) q s p ih =
-          rw (s, p, look-mode false k, q, no-better b (best e k x n m) (omega (arith, at-most-top k x n m (all-head k ks all) q)), walkOn) ih
-      on-seen Gone q s p ih = absurd (alive k (all-head k ks all) q)
+  stays b (k ∷ ks) all h =
+      let here : k < e .size = below-head (e .size) k ks all in
+      let ih = stays b ks (below-tail (e .size) k ks all) h in
+      by-test (λ y. y ≡ Choose b) (stops (mode e false) b) _ _ (λ s. refl)
+      (λ s.
+      by-test (λ y. y ≡ Choose b) (passedOver (mode e false) b k) _ _ (λ p. ih)
+      (λ p.
+      by-seen (λ y. y ≡ Choose b) (look (mode e false) a k) _ _ _ (λ q. ih)
+      (λ x n m q. rw (no-better b (best e k x n m) (omega (arith, at-most-top k x n m here (sym (look-mode false k) ∙ q)))) ih)
+      (λ q. absurd (alive k here (sym (look-mode false k) ∙ q)))))
 
-      on-passed : (c : Bool) → passedOver (mode e false) b k ≡ c → stops (mode e false) b ≡ false → walkOn (mode e false) a b ks ≡ Choose b → walkOn (mode e false) a b (k ∷ ks) ≡ Choose b
-      on-passed true p s ih = rw (s, p, walkOn) ih
-      on-passed false p s ih = on-seen (look e a k) refl s p ih
-
-      on-stop : (c : Bool) → stops (mode e false) b ≡ c → walkOn (mode e false) a b ks ≡ Choose b → walkOn (mode e false) a b (k ∷ ks) ≡ Choose b
-      on-stop true s ih = rw (s, walkOn)
-      on-stop false s ih = on-passed (passedOver (mode e false) b k) refl s ih
-
-  module _ (b : Best) (k : ℕ) (ks : List ℕ) (all : All (k ∷ ks))
+  module _ (b : Best) (k : ℕ) (ks : List ℕ) (all : Below (e .size) (k ∷ ks))
       (ih : (b : Best) → walkOn (mode e true) a b ks ≡ walkOn (mode e false) a b ks) where
     abbrev Same : Type 0
     Same = walkOn (mode e true) a b (k ∷ ks) ≡ walkOn (mode e false) a b (k ∷ ks)
@@ -119,7 +105,7 @@ module _ (e : Environment) (a : ℕ → Value) (alive : (k : ℕ) → k < e .siz
     cold-seen Shut q c s t p r = rw (s, t, p, r, look-mode false k, q, walkOn) (ih b)
     cold-seen (Open x n m) q c s t p r =
         rw (s, t, p, r, look-mode false k, q, no-better b (best e k x n m) (omega (arith, cold-zero k x n m c q)), walkOn) (ih b)
-    cold-seen Gone q c s t p r = absurd (alive k (all-head k ks all) q)
+    cold-seen Gone q c s t p r = absurd (alive k (below-head (e .size) k ks all) q)
 
     hot-seen : (v : Seen) → look e a k ≡ v → stops (mode e true) b ≡ false → stops (mode e false) b ≡ false → passedOver (mode e true) b k ≡ false → passedOver (mode e false) b k ≡ false → Same
     unfolding walkOn
@@ -149,22 +135,23 @@ module _ (e : Environment) (a : ℕ → Value) (alive : (k : ℕ) → k < e .siz
     on-tests false false p q =
         on-shield (isHot e k) (eqb (e .parent (b .clause)) 0 && not (eqb (e .parent k) 0)) refl refl (rw (p, q)) (rw p)
 
-  modes-on : (b : Best) (ks : List ℕ) → All ks → walkOn (mode e true) a b ks ≡ walkOn (mode e false) a b ks
+  modes-on : (b : Best) (ks : List ℕ) → Below (e .size) ks → walkOn (mode e true) a b ks ≡ walkOn (mode e false) a b ks
   unfolding walkOn
   modes-on b [] all = refl
   modes-on b (k ∷ ks) all =
-      on-tests b k ks all (λ b′. modes-on b′ ks (all-tail k ks all)) (eqb (b .count) 1)
+      on-tests b k ks all (λ b′. modes-on b′ ks (below-tail (e .size) k ks all)) (eqb (b .count) 1)
       (eqb (b .activity) (largest (e .activity) (e .names))) refl refl
 
-  modes-from : (ks : List ℕ) → All ks → walkFrom (mode e true) a ks ≡ walkFrom (mode e false) a ks
+  modes-from : (ks : List ℕ) → Below (e .size) ks → walkFrom (mode e true) a ks ≡ walkFrom (mode e false) a ks
   unfolding walkFrom
   modes-from [] all = refl
-  modes-from (k ∷ ks) all = go (look e a k) refl (modes-from ks (all-tail k ks all))
+  modes-from (k ∷ ks) all = go (look e a k) refl (modes-from ks (below-tail (e .size) k ks all))
     where
       go : (v : Seen) → look e a k ≡ v → walkFrom (mode e true) a ks ≡ walkFrom (mode e false) a ks → walkFrom (mode e true) a (k ∷ ks) ≡ walkFrom (mode e false) a (k ∷ ks)
       go Shut q ih = rw (look-mode true k, look-mode false k, q, walkFrom) ih
-      go (Open x n m) q ih = rw (look-mode true k, look-mode false k, q, walkFrom) (modes-on (best e k x n m) ks (all-tail k ks all))
+      go (Open x n m) q ih = rw (look-mode true k, look-mode false k, q, walkFrom) (modes-on (best e k x n m) ks (below-tail (e .size) k ks all))
       go Gone q ih = rw (look-mode true k, look-mode false k, q, walkFrom)
 
+  -- "both modes give the same proposal, drop count aside": the walk has no drops
   pub modes : walk (mode e true) a ≡ walk (mode e false) a
   modes = modes-from (ranks (e .size)) (ranks-below (e .size))

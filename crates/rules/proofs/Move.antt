@@ -1,5 +1,4 @@
--- The invariant moves from one assignment to another, where the two differ only at variables that are still to be routed.
--- Assumes nothing.
+-- THE INVARIANT MOVES FROM ONE ASSIGNMENT TO ANOTHER, where the two differ only at variables that are still to be routed. Assumes nothing.
 use mathlib.Core.Path.{_≡_, refl, sym, _∙_}
 use mathlib.Core.Bool.{Bool, true, false, not, _||_}
 use mathlib.Core.List.{List, [], _∷_, _++_}
@@ -7,10 +6,10 @@ use mathlib.Core.Logic.{_⊎_, inl, inr, ⊎-elim}
 use Prim.Native.Nat.{ℕ, _+_}
 use lib.Dec.{T, eqb, eqb→eq}
 use Rattle.rules.specs.Walk.{Value, True, Literal, literalFalse, CandidateList, flattened, firstTrue, firstUndecided, countUndecided, frontier, Satisfied, Frontier, Dead, evaluate, Environment, member}
-use Rattle.rules.specs.Queue.{Memo, Dirty, Known, Queue}
+use Rattle.rules.specs.Queue.{Cache, Dirty, Known, Queue}
 use Rattle.rules.specs.Sync.{meets}
 use Rattle.rules.specs.Invariant.{heldBy, Reason, queued, idle, moved, held, sated, Fit, Holds}
-use Rattle.rules.proofs.Bools.{or-cases, or-inl, or-inr}
+use Rattle.store.proofs.Choice.{or-inl, or-inr, or-cases}
 use Rattle.rules.proofs.Ranks.{member-head, member-tail}
 
 pub member-left : (v : ℕ) (xs ys : List ℕ) → T (member v xs) → T (member v (xs ++ ys))
@@ -98,7 +97,7 @@ module _ (a b : ℕ → Value) (W U : List ℕ) (sub : (v : ℕ) → T (member v
   held-sub [] t = t
   held-sub (l ∷ ls) t = held-one l (heldBy a W ls) (heldBy b U ls) (held-sub ls) t (agree (l .variable))
 
-  fit-move : (cs : List CandidateList) (m : Memo) → Fit a W cs m → Fit b U cs m
+  fit-move : (cs : List CandidateList) (m : Cache) → Fit a W cs m → Fit b U cs m
   fit-move cs Dirty f = tt
   fit-move cs (Known (Satisfied x)) f = (f .0, at-x (f .1) (agree x))
     where
@@ -114,8 +113,9 @@ module _ (a b : ℕ → Value) (W U : List ℕ) (sub : (v : ℕ) → T (member v
       at-f (inr p) (inr q) = inr (sym (evaluate-on a b cs q) ∙ p)
   fit-move cs (Known Dead) f = f
 
+  -- THE MOVE
   pub move : (e : Environment) (s : Queue) → Holds e a W s → Holds e b U s
-  move e s h = record { reason = λ k t. go k (h .reason k t); fit = λ r. fit-move (e .lists r) (s .memo r) (h .fit r) }
+  move e s h = record { reason = λ k t. go k (h .reason k t); fit = λ r. fit-move (e .lists r) (s .cache r) (h .fit r) }
     where
       go : (k : ℕ) → Reason e a W s k → Reason e b U s k
       go k (queued p) = queued p

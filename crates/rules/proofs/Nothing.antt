@@ -1,12 +1,12 @@
--- Nothing is answered exactly when no clause is open. Assumes nothing.
+-- NOTHING IS ANSWERED EXACTLY WHEN NO CLAUSE IS OPEN. Assumes nothing.
 use mathlib.Core.Path.{_≡_, refl}
 use mathlib.Core.Bool.{Bool, true, false, false≢true}
 use mathlib.Core.List.{List, [], _∷_}
 use mathlib.Core.Logic.{_⊎_, inl, inr, _↔_}
 use Prim.Native.Nat.{ℕ, _<_}
 use lib.Dec.{T, eqb, eqb→eq}
+use Rattle.store.proofs.Choice.{or-cases}
 use Rattle.rules.specs.Walk.{ranks, Value, Seen, Shut, Open, Gone, Environment, look, Best, best, stops, passedOver, better, Out, Nothing, DeadClause, Choose, walkFrom, walkOn, walk, member}
-use Rattle.rules.proofs.Bools.{or-cases}
 use Rattle.rules.proofs.Ranks.{member-head, member-tail, ranks-below, below-ranks}
 
 module _ (e : Environment) (a : ℕ → Value) where
@@ -38,5 +38,6 @@ module _ (e : Environment) (a : ℕ → Value) where
   all-shut [] h = refl
   all-shut (j ∷ ks) h = rw (h j (member-head j ks), walkFrom) (all-shut ks (λ k t. h k (member-tail k j ks t)))
 
+  -- "nothing is answered exactly when no clause is open"
   pub nothing-iff : (walk e a ≡ Nothing) ↔ ((k : ℕ) → k < e .size → look e a k ≡ Shut)
   nothing-iff = (λ h k t. none-open (ranks (e .size)) h k (below-ranks (e .size) k t), λ h. all-shut (ranks (e .size)) (λ k t. h k (ranks-below (e .size) k t)))

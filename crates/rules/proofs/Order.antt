@@ -1,5 +1,4 @@
--- Inserting a registration gives the registrations by position, each once.
--- Assumes nothing.
+-- ONE MORE REGISTRATION GOES BEHIND ITS PARENT'S LAST ONE in the order by position, and each stands there once. Assumes nothing.
 use mathlib.Core.Path.{_≡_, refl, _∙_}
 use mathlib.Core.Bool.{Bool, true, false, cond, _||_}
 use mathlib.Core.List.{List, [], _∷_, _++_}
@@ -7,10 +6,10 @@ use mathlib.Core.Logic.{_⊎_, ⊎-elim}
 use Prim.Native.Nat.{ℕ, zero, suc, _+_, _<_}
 use native.Mathlib.Omega.{arith}
 use lib.Dec.{T, eqb, eqb→eq}
+use Rattle.store.proofs.Choice.{or-cases}
 use Rattle.rules.specs.Walk.{member}
 use Rattle.rules.specs.Store.{changed}
 use Rattle.rules.specs.Position.{parentsInOrder, clausesOf, clausesOfAll, byPosition}
-use Rattle.rules.proofs.Bools.{or-cases}
 use Rattle.rules.proofs.Ranks.{member-head, member-tail, not-member, Once}
 use Rattle.rules.proofs.Position.{anyOf, insertBehind, eqb-self, member-snoc, position-insert, once-snoc, parents-once, of-all}
 
@@ -84,7 +83,7 @@ module _ (f : ℕ → ℕ) where
       (λ (o : T (member x (clausesOfAll f n ps))). let q = all-below n ps x o in (q .0, member-tail (f x) p ps (q .1)))
       (or-cases (member x (clausesOf f p n)) (member x (clausesOfAll f n ps)) (rw (member-split x (clausesOf f p n) (clausesOfAll f n ps)) at t))
 
--- registering keeps the order
+-- ONE MORE REGISTRATION
 pub register-order : (f : ℕ → ℕ) (n p : ℕ) → byPosition (changed f n p) (suc n) ≡ insertBehind f p n (byPosition f n)
 register-order f n p =
     let at-n : changed f n p n ≡ p = rw (eqb-self n) in
@@ -99,7 +98,7 @@ register-order f n p =
         go true q = absurd (let z : j ≡ n = eqb→eq j n (rw q tt) in omega arith)
         go false q = refl
 
--- each registration stands once in the order
+-- two lists with no number in common
 once-append : (xs ys : List ℕ) → Once xs → Once ys → ((x : ℕ) → T (member x xs) → member x ys ≡ false) → Once (xs ++ ys)
 once-append [] ys a b h = b
 once-append (x ∷ xs) ys a b h =
@@ -128,5 +127,6 @@ module _ (f : ℕ → ℕ) where
           let y : T false = rw (o .0) at q in
           y
 
+-- EACH REGISTRATION STANDS ONCE
 pub position-once : (f : ℕ → ℕ) (n : ℕ) → Once (byPosition f n)
 position-once f n = all-once f n (parentsInOrder f n) (parents-once f n)

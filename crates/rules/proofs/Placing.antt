@@ -1,17 +1,17 @@
--- A store keeps its clauses in position order: inserting by rank is inserting behind the parent's last registration. Assumes nothing.
+-- A STORE KEEPS ITS CLAUSES IN POSITION ORDER: inserting by rank is inserting behind the parent's last registration. Assumes nothing.
 use mathlib.Core.Path.{_≡_, refl, ap, sym, _∙_}
 use mathlib.Core.Bool.{Bool, true, false, cond, not, _&&_, _||_, false≢true}
 use mathlib.Core.List.{List, [], _∷_, _++_, map}
 use Prim.Native.Nat.{ℕ, zero, suc, _+_, _-_, _≤_, _<_}
 use native.Mathlib.Omega.{arith}
-use lib.Dec.{T, eqb}
+use lib.Dec.{eqb}
 use borrow.Author.Tests.{lt-ltb, le-ltb, eq-eqb, ne-eqb}
 use lib.ListN.{length}
-use Rattle.rules.specs.Walk.{member, Literal, ranksFrom, ranks}
+use Rattle.store.proofs.Choice.{or-none, or-true, and-none}
+use Rattle.rules.specs.Walk.{Literal, ranksFrom, ranks}
 use Rattle.rules.specs.Store.{Store, changed, behind, rank, inserted, registered, Step, same, push, undo, syncs, asks, tunes, loads, registers, Fresh, Reached, fresh, then}
 use Rattle.rules.specs.Position.{parentsInOrder, clausesOfAll, byPosition, History, noHistory, filed, after, history, InPosition}
-use Rattle.rules.proofs.Bools.{or-none, or-true, and-none}
-use Rattle.rules.proofs.Ranks.{member-head, member-tail}
+use Rattle.rules.proofs.Ranks.{Below, below-head, below-tail}
 use Rattle.rules.proofs.Position.{anyOf, insertBehind, any-append, eqb-self}
 use Rattle.rules.proofs.Order.{register-order, all-below}
 use Rattle.rules.proofs.Demand.{behind-most, inserted-below, inserted-at, inserted-above}
@@ -57,26 +57,20 @@ module _ {A : Type 0} (f : ℕ → A) (x : A) (n : ℕ) where
   put-here : changed f n x n ≡ x
   put-here = rw (eqb-self n)
 
-  abbrev Below : List ℕ → Type 0
-  Below js = (j : ℕ) → T (member j js) → j < n
-
-  rest : (j : ℕ) (js : List ℕ) → Below (j ∷ js) → Below js
-  rest j js h i t = h i (member-tail i j js t)
-
-  map-put : (js : List ℕ) → Below js → map (changed f n x) js ≡ map f js
+  map-put : (js : List ℕ) → Below n js → map (changed f n x) js ≡ map f js
   map-put [] h = refl
-  map-put (j ∷ js) h = rw (put-below j (h j (member-head j js)), map-put js (rest j js h))
+  map-put (j ∷ js) h = rw (put-below j (below-head n j js h), map-put js (below-tail n j js h))
 
-  by-parent : (F : ℕ → ℕ) (p : ℕ) (js : List ℕ) → Below js → map (changed f n x) (insertBehind F p n js) ≡ insertAt (place F p js) x (map f js)
+  by-parent : (F : ℕ → ℕ) (p : ℕ) (js : List ℕ) → Below n js → map (changed f n x) (insertBehind F p n js) ≡ insertAt (place F p js) x (map f js)
   unfolding insertBehind place insertAt
   by-parent F p [] h = rw put-here
-  by-parent F p (j ∷ js) h = go (eqb (F j) p && not (anyOf F p js)) (by-parent F p js (rest j js h))
+  by-parent F p (j ∷ js) h = go (eqb (F j) p && not (anyOf F p js)) (by-parent F p js (below-tail n j js h))
     where
       head : changed f n x j ≡ f j
-      head = put-below j (h j (member-head j js))
+      head = put-below j (below-head n j js h)
 
       go : (b : Bool) → map (changed f n x) (insertBehind F p n js) ≡ insertAt (place F p js) x (map f js) → map (changed f n x) (cond b (j ∷ n ∷ js) (j ∷ insertBehind F p n js)) ≡ insertAt (cond b 1 (suc (place F p js))) x (f j ∷ map f js)
-      go true ih = rw (head, put-here, map-put js (rest j js h))
+      go true ih = rw (head, put-here, map-put js (below-tail n j js h))
       go false ih = rw (head, ih)
 
 -- THE TWO PLACES ARE ONE
@@ -174,7 +168,8 @@ module _ (G F : ℕ → ℕ) (n p : ℕ) (parents : map G (ranks n) ≡ map F (b
       ∙ (sym (by-parent f x n F p (byPosition F n) (λ j t. all-below F n (parentsInOrder F n) j t .0))
       ∙ ap (λ (l : List ℕ). map (changed f n x) l) (sym (register-order F n p)))))
 
-register-position : (t : Store) (h : History) (p r : ℕ) (w : List Literal) (c : ℕ) → InPosition (t .env) h → InPosition ((registered t p r w c) .env) (filed h p r w c)
+-- a registration
+pub register-position : (t : Store) (h : History) (p r : ℕ) (w : List Literal) (c : ℕ) → InPosition (t .env) h → InPosition ((registered t p r w c) .env) (filed h p r w c)
 register-position t h p r w c i =
     record {
       size-is = ap suc (i .size-is);
@@ -213,7 +208,7 @@ step-position t _ (tunes f x m) h i = record { size-is = i .size-is; parents-are
 step-position t _ (loads r cs q) h i = record { size-is = i .size-is; parents-are = i .parents-are; requirements-are = i .requirements-are; conditions-are = i .conditions-are; clauseIds-are = i .clauseIds-are }
 step-position t _ (registers p r w c) h i = register-position t h p r w c i
 
-fresh-position : (t : Store) → Fresh t → InPosition (t .env) noHistory
+pub fresh-position : (t : Store) → Fresh t → InPosition (t .env) noHistory
 unfolding ranksFrom parentsInOrder clausesOfAll
 fresh-position t f = record { size-is = f .no-size; parents-are = rw (f .no-size); requirements-are = rw (f .no-size); conditions-are = rw (f .no-size); clauseIds-are = rw (f .no-size) }
 

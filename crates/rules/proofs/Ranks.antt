@@ -1,14 +1,14 @@
 -- Members of lists; the ranks of n clauses are the numbers below n, each once. Assumes nothing.
-use mathlib.Core.Path.{_≡_, refl}
+use mathlib.Core.Path.{_≡_, refl, ap}
 use mathlib.Core.Bool.{Bool, true, false, _||_}
-use mathlib.Core.List.{List, [], _∷_}
+use mathlib.Core.List.{List, [], _∷_, map}
 use mathlib.Core.Logic.{_⊎_, inl, inr}
 use Prim.Native.Nat.{ℕ, zero, suc, _+_, _≤_, _<_}
 use native.Mathlib.Omega.{arith}
 use native.Mathlib.Decide.{decLe}
 use lib.Dec.{T, eqb, eqb→eq, eqb-refl}
 use Rattle.rules.specs.Walk.{member, ranksFrom, ranks}
-use Rattle.rules.proofs.Bools.{or-cases, or-inl, or-inr}
+use Rattle.store.proofs.Choice.{or-inl, or-inr, or-cases}
 
 pub member-head : (v : ℕ) (vs : List ℕ) → T (member v (v ∷ vs))
 unfolding member
@@ -43,7 +43,17 @@ within-from i (suc n) k a b = go (decLe (suc i) k) (within-from (suc i) n k)
     go (yes p) ih = or-inr (eqb k i) (member k (ranksFrom (suc i) n)) (ih p (omega arith))
     go (no p) ih = or-inl (eqb k i) (member k (ranksFrom (suc i) n)) (let z : k ≡ i = omega arith in rw z (eqb-refl i))
 
-pub ranks-below : (n k : ℕ) → T (member k (ranks n)) → k < n
+-- the numbers of a list are below n
+abbrev pub Below : ℕ → List ℕ → Type 0
+Below n ks = (k : ℕ) → T (member k ks) → k < n
+
+pub below-head : (n k : ℕ) (ks : List ℕ) → Below n (k ∷ ks) → k < n
+below-head n k ks all = all k (member-head k ks)
+
+pub below-tail : (n k : ℕ) (ks : List ℕ) → Below n (k ∷ ks) → Below n ks
+below-tail n k ks all j t = all j (member-tail j k ks t)
+
+pub ranks-below : (n : ℕ) → Below n (ranks n)
 ranks-below n k t = let q : k < 0 + n = from-within 0 n k t .1 in omega arith
 
 pub below-ranks : (n k : ℕ) → k < n → T (member k (ranks n))
@@ -60,3 +70,25 @@ from-once i (suc n) = (not-member i (ranksFrom (suc i) n) (λ t. let q : suc i �
 
 pub ranks-once : (n : ℕ) → Once (ranks n)
 ranks-once n = from-once 0 n
+
+-- lists of the same values, rank by rank
+module _ {A : Type 0} (g f : ℕ → A) where
+  abbrev heads : A → List A → A
+  heads x [] = x
+  heads x (y ∷ ys) = y
+
+  abbrev tails : List A → List A
+  tails [] = []
+  tails (y ∷ ys) = ys
+
+  from-at : (b n k : ℕ) → map g (ranksFrom b n) ≡ map f (ranksFrom b n) → b ≤ k → k < b + n → g k ≡ f k
+  unfolding ranksFrom
+  from-at b zero k h l m = absurd (let z : ⊥ = omega arith in z)
+  from-at b (suc n) k h l m = go (decLe (suc b) k) (from-at (suc b) n k (ap tails h))
+    where
+      go : Dec (b < k) → (suc b ≤ k → k < suc b + n → g k ≡ f k) → g k ≡ f k
+      go (yes p) ih = ih p (omega arith)
+      go (no p) ih = let z : k ≡ b = omega arith in rw z (ap (heads (g b)) h)
+
+  pub at-rank : (n k : ℕ) → map g (ranks n) ≡ map f (ranks n) → k < n → g k ≡ f k
+  at-rank n k h l = from-at 0 n k h (omega arith) (omega arith)

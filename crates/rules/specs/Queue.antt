@@ -1,49 +1,49 @@
--- The queue: marks, caches, sync and the proposal that reads only queued clauses.
+-- The queue: marks, caches, and the proposal that reads only queued clauses.
 -- Assumes nothing.
 use mathlib.Core.Bool.{Bool, true, false, _&&_}
 use mathlib.Core.List.{List, [], _∷_}
 use Prim.Native.Nat.{ℕ, suc}
 use lib.Dec.{eqb}
-pub use Rattle.rules.specs.declared.Memo.{Memo}
-pub use Rattle.rules.specs.declared.Memo.the-variants.{Dirty, Known}
+pub use Rattle.rules.specs.declared.Cache.{Cache}
+pub use Rattle.rules.specs.declared.Cache.the-variants.{Dirty, Known}
 use Rattle.rules.specs.Walk.{ranks, Value, State, Satisfied, Frontier, Dead, evaluate, Seen, Shut, Open, Gone, seenAs, Environment, active, Best, best, stops, passedOver, better, Out, Nothing, DeadClause, Choose}
 
 -- "a queued mark per clause and a walk by parent number": the marks, and a cache for each requirement
 pub record Queue : Type 0 where
   pub mark : ℕ → Bool
-  pub memo : ℕ → Memo
+  pub cache : ℕ → Cache
 
 -- a clause leaves the queue
 abbrev pub unmark : Queue → ℕ → Queue
-unmark s k = record { mark = λ j. elim (eqb j k) [ true ↦ false | false ↦ s .mark j ]; memo = s .memo }
+unmark s k = record { mark = λ j. elim (eqb j k) [ true ↦ false | false ↦ s .mark j ]; cache = s .cache }
 
 -- a cache that is not dirty is believed
-abbrev pub stateIn : Memo → State → State
+abbrev pub stateIn : Cache → State → State
 stateIn Dirty t = t
 stateIn (Known t) u = t
 
 -- "caches filled; the dead requirement's cache stays dirty"
-abbrev pub keep : State → Memo
+abbrev pub keep : State → Cache
 keep (Satisfied x) = Known (Satisfied x)
 keep (Frontier x n m) = Known (Frontier x n m)
 keep Dead = Dirty
 
 -- what an examination finds, by the cache
 unfoldable pub seen : Environment → (ℕ → Value) → Queue → ℕ → Seen
-seen e a s k = elim (active e a k) [ true ↦ seenAs (stateIn (s .memo (e .requirement k)) (evaluate a (e .lists (e .requirement k)))) | false ↦ Shut ]
+seen e a s k = elim (active e a k) [ true ↦ seenAs (stateIn (s .cache (e .requirement k)) (evaluate a (e .lists (e .requirement k)))) | false ↦ Shut ]
 
 -- the queue after an examination: only an active clause's cache is asked, and filled
 abbrev pub fill : Environment → (ℕ → Value) → Queue → ℕ → Queue
 fill e a s k =
     record {
       mark = s .mark;
-      memo =
+      cache =
           λ r.
           elim (active e a k && eqb r (e .requirement k))
-          [ true ↦ keep (stateIn (s .memo r) (evaluate a (e .lists r))) | false ↦ s .memo r ];
+          [ true ↦ keep (stateIn (s .cache r) (evaluate a (e .lists r))) | false ↦ s .cache r ];
     }
 
--- what a proposal says: "nothing and refusal 8 carry that number too", and the state it leaves
+-- what a proposal says, how many clauses it dropped, and the state that it leaves
 pub record Answer (S : Type 0) : Type 0 where
   pub out : Out
   pub drops : ℕ

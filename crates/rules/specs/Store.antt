@@ -2,11 +2,11 @@
 -- Assumes nothing.
 use mathlib.Core.Path.{_≡_}
 use mathlib.Core.Bool.{Bool, cond}
-use mathlib.Core.List.{List, [], _∷_, _++_, map}
+use mathlib.Core.List.{List, [], _∷_, _++_}
 use Prim.Native.Nat.{ℕ, zero, suc, _+_, _-_, _≤_, min}
 use lib.Dec.{eqb, ltb}
 use lib.ListN.{length, take, drop}
-use Rattle.rules.specs.Walk.{Value, isTrue, Literal, CandidateList, Environment, ranks}
+use Rattle.rules.specs.Walk.{Value, isTrue, Literal, CandidateList, Environment, refitted}
 use Rattle.rules.specs.Queue.{Dirty, Queue, Answer, propose}
 use Rattle.rules.specs.Sync.{Entry, value, variables, routes}
 
@@ -35,7 +35,7 @@ changed f k x j = cond (eqb j k) x (f j)
 abbrev pub pushed : Store → Entry → Store
 pushed t d = record { env = t .env; trail = t .trail ++ (d ∷ []); mirror = t .mirror; floor = t .floor; queue = t .queue }
 
--- undo-last, undo-until and clear cut the trail back to n entries; a pop "lowers the sync floor to that length if it was higher"
+-- undo-last and undo-until cut the trail back to n entries; a pop "lowers the sync floor to that length if it was higher"
 abbrev pub cut : Store → ℕ → Store
 cut t n = record { env = t .env; trail = take n (t .trail); mirror = t .mirror; floor = min (t .floor) n; queue = t .queue }
 
@@ -68,41 +68,15 @@ remade t e q = record { env = e; trail = t .trail; mirror = t .mirror; floor = t
 
 -- activities, hot names and mode are set: the rest stays
 abbrev pub tuned : Store → (ℕ → ℕ) → (ℕ → Bool) → Bool → Store
-tuned t f h m =
-    let e : Environment = t .env in
-    remade t
-    (record {
-      size = e .size;
-      parent = e .parent;
-      requirement = e .requirement;
-      condition = e .condition;
-      clauseId = e .clauseId;
-      lists = e .lists;
-      activity = f;
-      names = e .names;
-      hot = h;
-      standard = m;
-    })
-    (t .queue)
+tuned t f h m = remade t (refitted (t .env) (t .env .lists) f h m) (t .queue)
+
+-- the same clauses and settings, with other lists
+abbrev pub relisted : Environment → (ℕ → List CandidateList) → Environment
+relisted e lists = refitted e lists (e .activity) (e .hot) (e .standard)
 
 -- "tables taken into the store once": the lists of a requirement that had none
 abbrev pub loaded : Store → ℕ → List CandidateList → Store
-loaded t r cs =
-    let e : Environment = t .env in
-    remade t
-    (record {
-      size = e .size;
-      parent = e .parent;
-      requirement = e .requirement;
-      condition = e .condition;
-      clauseId = e .clauseId;
-      lists = changed (e .lists) r cs;
-      activity = e .activity;
-      names = e .names;
-      hot = e .hot;
-      standard = e .standard;
-    })
-    (t .queue)
+loaded t r cs = remade t (relisted (t .env) (changed (t .env .lists) r cs)) (t .queue)
 
 -- of the first n clauses, the rank behind the last one of parent p; m if there is none
 unfoldable pub behind : (ℕ → ℕ) → ℕ → ℕ → ℕ → ℕ
@@ -135,7 +109,7 @@ registered t p r w c =
       hot = e .hot;
       standard = e .standard;
     })
-    (record { mark = inserted (t .queue .mark) i (isTrue (assigned t p)); memo = t .queue .memo })
+    (record { mark = inserted (t .queue .mark) i (isTrue (assigned t p)); cache = t .queue .cache })
 
 -- what a call may do to a store: every refusal but 8 is `same`, and refusal 8 is an `ask`
 pub data Step (t : Store) : Store → Type 0 where
@@ -154,26 +128,9 @@ pub record Fresh (t : Store) : Type 0 where
   pub no-entry : t .trail ≡ []
   pub no-mirror : t .mirror ≡ []
   pub at-zero : t .floor ≡ 0
-  pub all-dirty : (r : ℕ) → t .queue .memo r ≡ Dirty
+  pub all-dirty : (r : ℕ) → t .queue .cache r ≡ Dirty
 
 -- "stores reached from fresh"
 pub data Reached : Store → Type 0 where
   fresh : {t : Store} → Fresh t → Reached t
   then : {t u : Store} → Reached t → Step t u → Reached u
-
--- the same tables, activities, hot names and mode
-pub record SameSettings (e f : Environment) : Type 0 where
-  pub lists-same : e .lists ≡ f .lists
-  pub activities-same : e .activity ≡ f .activity
-  pub names-same : e .names ≡ f .names
-  pub hot-same : e .hot ≡ f .hot
-  pub mode-same : e .standard ≡ f .standard
-
--- the same clauses in the same positions, with the same settings: what stands beyond the size is not compared
-pub record Alike (e f : Environment) : Type 0 where
-  pub size-same : e .size ≡ f .size
-  pub parents-same : map (e .parent) (ranks (e .size)) ≡ map (f .parent) (ranks (f .size))
-  pub requirements-same : map (e .requirement) (ranks (e .size)) ≡ map (f .requirement) (ranks (f .size))
-  pub conditions-same : map (e .condition) (ranks (e .size)) ≡ map (f .condition) (ranks (f .size))
-  pub clauseIds-same : map (e .clauseId) (ranks (e .size)) ≡ map (f .clauseId) (ranks (f .size))
-  pub settings : SameSettings e f

@@ -1,11 +1,11 @@
--- The trail, the mirror and the floor; sync and the routing of a touched variable.
+-- Routing a touched variable; the trail's entries and the assignment that they give.
 -- Assumes nothing.
 use mathlib.Core.Bool.{Bool, true, false, not, cond, _&&_, _||_}
 use mathlib.Core.List.{List, [], _∷_}
 use Prim.Native.Nat.{ℕ}
 use lib.Dec.{eqb, ltb}
 use Rattle.rules.specs.Walk.{Value, Undecided, True, False, isTrue, Literal, CandidateList, flattened, Satisfied, Frontier, Dead, Environment, member}
-use Rattle.rules.specs.Queue.{Memo, Dirty, Known, Queue}
+use Rattle.rules.specs.Queue.{Cache, Dirty, Known, Queue}
 
 -- the variable is one of the condition's
 unfoldable pub hasVariable : ℕ → List Literal → Bool
@@ -13,14 +13,14 @@ hasVariable v [] = false
 hasVariable v (l ∷ ls) = eqb (l .variable) v || hasVariable v ls
 
 -- the variable breaks a cached satisfaction: the cache says "satisfied by x", x is not true, and the variable is a candidate
-abbrev pub breaks : (ℕ → Value) → ℕ → List CandidateList → Memo → Bool
+abbrev pub breaks : (ℕ → Value) → ℕ → List CandidateList → Cache → Bool
 breaks a v cs Dirty = false
 breaks a v cs (Known (Satisfied x)) = not (isTrue (a x)) && member v (flattened cs)
 breaks a v cs (Known (Frontier x n m)) = false
 breaks a v cs (Known Dead) = false
 
 -- what routing a candidate leaves of a cache: dirty, but a satisfaction that still stands is kept
-abbrev pub stale : (ℕ → Value) → ℕ → List CandidateList → Memo → Memo
+abbrev pub stale : (ℕ → Value) → ℕ → List CandidateList → Cache → Cache
 stale a v cs Dirty = Dirty
 stale a v cs (Known (Satisfied x)) = elim (not (isTrue (a x)) && member v (flattened cs)) [ true ↦ Dirty | false ↦ Known (Satisfied x) ]
 stale a v cs (Known (Frontier x n m)) = elim (member v (flattened cs)) [ true ↦ Dirty | false ↦ Known (Frontier x n m) ]
@@ -31,14 +31,14 @@ abbrev pub wakes : Environment → (ℕ → Value) → ℕ → Queue → ℕ →
 wakes e a v s k =
     ltb k (e .size)
     && (isTrue (a (e .parent k))
-    && (eqb (e .parent k) v || (hasVariable v (e .condition k) || breaks a v (e .lists (e .requirement k)) (s .memo (e .requirement k)))))
+    && (eqb (e .parent k) v || (hasVariable v (e .condition k) || breaks a v (e .lists (e .requirement k)) (s .cache (e .requirement k)))))
 
 -- one touched variable is routed, as in `route_touched`
 abbrev pub route : Environment → (ℕ → Value) → ℕ → Queue → Queue
 route e a v s =
     record {
       mark = λ k. s .mark k || wakes e a v s k;
-      memo = λ r. stale a v (e .lists r) (s .memo r);
+      cache = λ r. stale a v (e .lists r) (s .cache r);
     }
 
 -- the touched variables, one after the other

@@ -4,6 +4,7 @@ use mathlib.Core.Bool.{Bool, true, false, not, cond, _&&_, _||_}
 use mathlib.Core.List.{List, [], _∷_, _++_}
 use Prim.Native.Nat.{ℕ, zero, suc, _+_, max}
 use lib.Dec.{eqb, ltb}
+use Rattle.store.specs.Codes.{root}
 pub use Rattle.trail.specs.declared.Value.{Value}
 pub use Rattle.trail.specs.declared.Value.the-variants.{Undecided, True, False}
 pub use Rattle.rules.specs.declared.Best.{Best}
@@ -16,7 +17,7 @@ pub use Rattle.rules.specs.declared.State.the-variants.{Satisfied, Front
 pub use Rattle.rules.specs.declared.Seen.{Seen}
 pub use Rattle.rules.specs.declared.Seen.the-variants.{Shut, Open, Gone}
 
--- the three values of a variable
+-- decided, and true
 abbrev pub isTrue : Value → Bool
 isTrue Undecided = false
 isTrue True = true
@@ -39,7 +40,7 @@ pub record Literal : Type 0 where
   pub variable : ℕ
   pub negated : Bool
 
--- "undecided where its variable is, else the variable's value, turned round if negated": so it is false where the variable is decided, and false (true, if negated)
+-- "undecided where its variable is, else the variable's value, turned round if negated": so it is false where its variable is false, or true if it is negated
 abbrev pub literalFalse : (ℕ → Value) → Literal → Bool
 literalFalse a l = cond (l .negated) (isTrue (a (l .variable))) (isFalse (a (l .variable)))
 
@@ -148,7 +149,7 @@ stops e b = eqb (b .count) 1 || (e .standard && eqb (b .activity) (largest (e .a
 
 -- "in standard mode only hot ones. If the best's parent is the root, clauses of other parents are passed over unexamined"
 abbrev pub passedOver : Environment → Best → ℕ → Bool
-passedOver e b k = (e .standard && not (isHot e k)) || (eqb (e .parent (b .clause)) 0 && not (eqb (e .parent k) 0))
+passedOver e b k = (e .standard && not (isHot e k)) || (eqb (e .parent (b .clause)) root && not (eqb (e .parent k) root))
 
 -- "Any other replaces the best if its activity is strictly higher and its count strictly lower"
 abbrev pub better : Best → Best → Best
@@ -195,21 +196,25 @@ walkFrom e a (k ∷ ks) =
 abbrev pub walk : Environment → (ℕ → Value) → Out
 walk e a = walkFrom e a (ranks (e .size))
 
--- the same in the other mode
-abbrev pub mode : Environment → Bool → Environment
-mode e b =
+-- the same clauses, with other lists, activities, hot names and mode
+abbrev pub refitted : Environment → (ℕ → List CandidateList) → (ℕ → ℕ) → (ℕ → Bool) → Bool → Environment
+refitted e lists activity hot standard =
     record {
       size = e .size;
       parent = e .parent;
       requirement = e .requirement;
       condition = e .condition;
       clauseId = e .clauseId;
-      lists = e .lists;
-      activity = e .activity;
+      lists = lists;
+      activity = activity;
       names = e .names;
-      hot = e .hot;
-      standard = b;
+      hot = hot;
+      standard = standard;
     }
+
+-- the same in a given mode
+abbrev pub mode : Environment → Bool → Environment
+mode e b = refitted e (e .lists) (e .activity) (e .hot) b
 
 -- a name of the lists
 unfoldable pub named : ℕ → List CandidateList → Bool

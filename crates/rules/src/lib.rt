@@ -1,11 +1,4 @@
-ghost use mathlib.Core.Path.{_≡_};
-
 // The kinds of answer of the rules; the rules themselves are in specs/.
-pub fn root() -> u32
-    ensures { λ r. ⌜ r ≡ 0 ⌝ }
-{
-    0
-}
 
 // A candidate that a list was searched for.
 pub enum Found {
@@ -36,7 +29,7 @@ pub enum Seen {
 }
 
 // The cache of a requirement.
-pub enum Memo {
+pub enum Cache {
     Dirty,
     Known(State),
 }

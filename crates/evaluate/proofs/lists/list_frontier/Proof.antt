@@ -17,8 +17,8 @@ list-length-requires c κs = search needs
 wide-requires-2 : tie.Need-wide-requires-2
 wide-requires-2 c κs = search needs
 
-first-free-requires : tie.Need-first-free-requires
-first-free-requires c κs = (c .before .before .before .before .before .pre .0, span-of _ _ _ _ (c .before .before .before .before .before .pre .0) (c .before .before .before .before .before .pre .1) (c .before .before .wide .ensures ∙ c .before .before .before .list-start .ensures) (c .wide2 .ensures ∙ c .before .list-length .ensures))
+first-undecided-requires : tie.Need-first-undecided-requires
+first-undecided-requires c κs = (c .before .before .before .before .before .pre .0, span-of _ _ _ _ (c .before .before .before .before .before .pre .0) (c .before .before .before .before .before .pre .1) (c .before .before .wide .ensures ∙ c .before .before .before .list-start .ensures) (c .wide2 .ensures ∙ c .before .list-length .ensures))
 
 enum-known-found : tie.Need-enum-known-found
 enum-known-found c = search needs
@@ -26,17 +26,17 @@ enum-known-found c = search needs
 name-at-requires : tie.Need-name-at-requires
 name-at-requires c κs = search needs
 
-count-free-requires : tie.Need-count-free-requires
-count-free-requires c κs = (c .before .before .before .before .before .before .before .before .before .before .pre .0, span-of _ _ _ _ (c .before .before .before .before .before .before .before .before .before .before .pre .0) (c .before .before .before .before .before .before .before .before .before .before .pre .1) (c .before .before .before .before .before .before .before .wide .ensures ∙ c .before .before .before .before .before .before .before .before .list-start .ensures) (c .before .before .before .before .before .wide2 .ensures ∙ c .before .before .before .before .before .before .list-length .ensures))
+count-undecided-requires : tie.Need-count-undecided-requires
+count-undecided-requires c κs = (c .before .before .before .before .before .before .before .before .before .before .pre .0, span-of _ _ _ _ (c .before .before .before .before .before .before .before .before .before .before .pre .0) (c .before .before .before .before .before .before .before .before .before .before .pre .1) (c .before .before .before .before .before .before .before .wide .ensures ∙ c .before .before .before .before .before .before .before .before .list-start .ensures) (c .before .before .before .before .before .wide2 .ensures ∙ c .before .before .before .before .before .before .list-length .ensures))
 
 enum-told : tie.Need-enum-told
 enum-told c = search needs
 
 returns : tie.Need-returns
-returns c = list-first _ _ _ _ _ (c .before .before .before .before .before .before .before .before .wide .ensures ∙ c .before .before .before .before .before .before .before .before .before .list-start .ensures) (c .before .before .before .before .before .before .wide2 .ensures ∙ c .before .before .before .before .before .before .before .list-length .ensures) _ _ _ (sym (c .before .before .before .before .before .first-free .ensures) ∙ c .before .before .before .found .given .1) (c .before .name-at .ensures) (c .count-free .ensures)
+returns c = list-first _ _ _ _ _ (c .before .before .before .before .before .before .before .before .wide .ensures ∙ c .before .before .before .before .before .before .before .before .before .list-start .ensures) (c .before .before .before .before .before .before .wide2 .ensures ∙ c .before .before .before .before .before .before .before .list-length .ensures) _ _ _ (sym (c .before .before .before .before .before .first-undecided .ensures) ∙ c .before .before .before .found .given .1) (c .before .name-at .ensures) (c .count-undecided .ensures)
 
 returns-2 : tie.Need-returns-2
-returns-2 c = list-dead _ _ _ _ _ (c .before .before .before .before .before .wide .ensures ∙ c .before .before .before .before .before .before .list-start .ensures) (c .before .before .before .wide2 .ensures ∙ c .before .before .before .before .list-length .ensures) (sym (c .before .before .first-free .ensures) ∙ c .enum-told .given .1)
+returns-2 c = list-dead _ _ _ _ _ (c .before .before .before .before .before .wide .ensures ∙ c .before .before .before .before .before .before .list-start .ensures) (c .before .before .before .wide2 .ensures ∙ c .before .before .before .before .list-length .ensures) (sym (c .before .before .first-undecided .ensures) ∙ c .enum-told .given .1)
 
 pub list-frontier-spec : {M : Type 1} → statement M
 list-frontier-spec =
@@ -46,10 +46,10 @@ list-frontier-spec =
     wide-requires
     list-length-requires
     wide-requires-2
-    first-free-requires
+    first-undecided-requires
     enum-known-found
     name-at-requires
-    count-free-requires
+    count-undecided-requires
     enum-told
     returns
     returns-2)

@@ -2,8 +2,8 @@ use mathlib.Core.Path.{_∙_}
 use borrow.Author.Needs.{needs}
 use Rattle.evaluate.proofs.Literals.{absent-passes, unloaded-passes, literals-are}
 use Rattle.evaluate.proofs.Reading.{literals-of}
-use Rattle.evaluate.proofs.conditions.passes.Statement.{statement}
-use Rattle.evaluate.proofs.conditions.passes.Tie as tie
+use Rattle.evaluate.proofs.condition.passes.Statement.{statement}
+use Rattle.evaluate.proofs.condition.passes.Tie as tie
 
 returns : tie.Need-returns
 returns c = absent-passes _ _ _ (c .if1 .taken)

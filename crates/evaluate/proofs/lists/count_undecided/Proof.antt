@@ -9,8 +9,8 @@ use Rattle.evaluate.proofs.Cells.{count-more, count-same, count-done}
 use Rattle.evaluate.proofs.Reading.{cell-variable}
 use Rattle.evaluate.specs.View.{assigned, run}
 use Rattle.rules.specs.Walk.{countUndecided}
-use Rattle.evaluate.proofs.lists.count_free.Statement.{statement}
-use Rattle.evaluate.proofs.lists.count_free.Tie as tie
+use Rattle.evaluate.proofs.lists.count_undecided.Statement.{statement}
+use Rattle.evaluate.proofs.lists.count_undecided.Tie as tie
 
 abbrev Inv-loop : tie.InvT-loop
 Inv-loop s start n count₀ i₀ count i = (i ≤ n) × (count ≤ i) × (countUndecided (assigned s) (run s start n) ≡ count + countUndecided (assigned s) (drop i (run s start n)))
@@ -27,8 +27,8 @@ add-candidate c = search needs
 candidate-requires : tie.Need-candidate-requires Inv-loop μ-loop
 candidate-requires c κs = search needs
 
-is-free-requires : tie.Need-is-free-requires Inv-loop μ-loop
-is-free-requires c κs = (c .before .before .before .before .pre .0, cell-variable _ _ _ (c .before .before .before .before .pre .0) (c .candidate .ensures))
+is-undecided-requires : tie.Need-is-undecided-requires Inv-loop μ-loop
+is-undecided-requires c κs = (c .before .before .before .before .pre .0, cell-variable _ _ _ (c .before .before .before .before .pre .0) (c .candidate .ensures))
 
 add-count : tie.Need-add-count Inv-loop μ-loop
 add-count c = search needs
@@ -40,13 +40,13 @@ loop-less : tie.Need-loop-less Inv-loop μ-loop
 loop-less c = search needs
 
 loop-again : tie.Need-loop-again Inv-loop μ-loop
-loop-again c = (omega arith, ⊎-elim (λ w. omega arith) (λ w. omega arith) (c .if1 .came), ⊎-elim (λ w. count-more _ _ _ (c .before .before .before .before .before .before .pre .0) (c .before .before .before .before .before .before .pre .1) (assigned (c .before .before .before .before .before .before .args .s .now)) _ _ (c .before .before .before .before .loop .inv .2) _ _ (c .before .before .candidate .ensures) (c .before .before .before .loop-test .taken) (sym (c .before .is-free .ensures) ∙ w .0 .taken) (w .1)) (λ w. count-same _ _ _ (c .before .before .before .before .before .before .pre .0) (c .before .before .before .before .before .before .pre .1) (assigned (c .before .before .before .before .before .before .args .s .now)) _ _ (c .before .before .before .before .loop .inv .2) _ _ (c .before .before .candidate .ensures) (c .before .before .before .loop-test .taken) (sym (c .before .is-free .ensures) ∙ w .0 .left) (w .1)) (c .if1 .came))
+loop-again c = (omega arith, ⊎-elim (λ w. omega arith) (λ w. omega arith) (c .if1 .came), ⊎-elim (λ w. count-more _ _ _ (c .before .before .before .before .before .before .pre .0) (c .before .before .before .before .before .before .pre .1) (assigned (c .before .before .before .before .before .before .args .s .now)) _ _ (c .before .before .before .before .loop .inv .2) _ _ (c .before .before .candidate .ensures) (c .before .before .before .loop-test .taken) (sym (c .before .is-undecided .ensures) ∙ w .0 .taken) (w .1)) (λ w. count-same _ _ _ (c .before .before .before .before .before .before .pre .0) (c .before .before .before .before .before .before .pre .1) (assigned (c .before .before .before .before .before .before .args .s .now)) _ _ (c .before .before .before .before .loop .inv .2) _ _ (c .before .before .candidate .ensures) (c .before .before .before .loop-test .taken) (sym (c .before .is-undecided .ensures) ∙ w .0 .left) (w .1)) (c .if1 .came))
 
 returns : tie.Need-returns Inv-loop μ-loop
 returns c = count-done _ _ _ (c .before .before .before .pre .0) (c .before .before .before .pre .1) (assigned (c .before .before .before .args .s .now)) _ _ (c .before .loop .inv .2) (c .loop-test .left)
 
-pub count-free-spec : {M : Type 1} → statement M
-count-free-spec =
+pub count-undecided-spec : {M : Type 1} → statement M
+count-undecided-spec =
     tie.close
     (tie.spec
     Inv-loop
@@ -54,7 +54,7 @@ count-free-spec =
     loop-holds
     add-candidate
     candidate-requires
-    is-free-requires
+    is-undecided-requires
     add-count
     add-i
     loop-less

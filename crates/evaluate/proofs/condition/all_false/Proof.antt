@@ -6,8 +6,8 @@ use Rattle.evaluate.proofs.Literals.{literals-fail, literals-next, lite
 use Rattle.evaluate.proofs.Turns.{from-begin}
 use Rattle.evaluate.specs.View.{assigned, from, literalAt}
 use Rattle.rules.specs.Walk.{allFalse}
-use Rattle.evaluate.proofs.conditions.all_false.Statement.{statement}
-use Rattle.evaluate.proofs.conditions.all_false.Tie as tie
+use Rattle.evaluate.proofs.condition.all_false.Statement.{statement}
+use Rattle.evaluate.proofs.condition.all_false.Tie as tie
 
 abbrev Inv-loop : tie.InvT-loop
 Inv-loop s start n i₀ i = (i ≤ n) × (allFalse (assigned s) (from (literalAt s) start n) ≡ allFalse (assigned s) (from (literalAt s) (start + i) (n - i)))

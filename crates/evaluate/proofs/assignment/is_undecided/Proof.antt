@@ -1,8 +1,8 @@
 use mathlib.Core.Path.{sym, ap, _∙_}
 use borrow.Author.Needs.{needs}
 use Rattle.rules.specs.Walk.{isUndecided}
-use Rattle.evaluate.proofs.assignment.is_free.Statement.{statement}
-use Rattle.evaluate.proofs.assignment.is_free.Tie as tie
+use Rattle.evaluate.proofs.assignment.is_undecided.Statement.{statement}
+use Rattle.evaluate.proofs.assignment.is_undecided.Tie as tie
 
 value-of-requires : tie.Need-value-of-requires
 value-of-requires c κs = search needs
@@ -25,7 +25,7 @@ returns-2 c = ap isUndecided (sym (c .enum-told2 .given .1) ∙ c .before .befor
 returns-3 : tie.Need-returns-3
 returns-3 c = ap isUndecided (sym (c .enum-told3 .given .1) ∙ c .before .before .value-of .ensures)
 
-pub is-free-spec : {M : Type 1} → statement M
-is-free-spec =
+pub is-undecided-spec : {M : Type 1} → statement M
+is-undecided-spec =
     tie.close
     (tie.spec value-of-requires enum-told enum-told-2 enum-told-3 returns returns-2 returns-3)
