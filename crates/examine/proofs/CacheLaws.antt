@@ -7,7 +7,8 @@ use Prim.Native.Nat.{ℕ, _≤_, _<_}
 use native.Mathlib.Omega.{arith}
 use lib.Dec.{T, eqb}
 use lib.ListN.{length}
-use Rattle.evaluate.specs.Standing.{memoBy, memoOf}
+use Rattle.evaluate.proofs.Frames.{cachesRegion}
+use Rattle.evaluate.specs.Standing.{cacheBy, cacheOf}
 use Rattle.examine.specs.Cache.{cacheWrites, cached}
 use Rattle.store.proofs.AreaLaws.{area-puts, at-kept, at-put-else, at-written, clear-outside, length-puts}
 use Rattle.store.proofs.Soundness.{sound-put}
@@ -15,12 +16,8 @@ use Rattle.store.specs.Area.{Area, Inside, Write, apart, area, at, put, puts, w
 use Rattle.store.specs.Layout.{cacheCandidates, cacheCounts, cacheNames, cacheStates, region, words}
 use Rattle.store.specs.Limits.{cellRoom, lastName, lastVariable, requirements}
 use Rattle.store.specs.Shape.{Sound}
-use Rattle.rules.specs.declared.Memo.the-variants.{Dirty, Known}
+use Rattle.rules.specs.declared.Cache.the-variants.{Dirty, Known}
 use Rattle.rules.specs.declared.State.the-variants.{Satisfied, Frontier, Dead}
-
--- the four areas of the caches
-abbrev pub cacheRegion : Area
-cacheRegion = region cacheStates cacheCounts
 
 -- every write lies in another area, or at another place of this one
 abbrev Elsewhere : Area → ℕ → List Write → Type 0
@@ -45,9 +42,9 @@ module _ (w : List ℕ) (key state x n m : ℕ) (h : key < requirements) where
   unfolding cached
   length-cached = length-puts (cacheWrites key state x n m) w
 
-  pub area-cached : (a : Area) → T (apart a cacheRegion) → area a (cached w key state x n m) ≡ area a w
+  pub area-cached : (a : Area) → T (apart a cachesRegion) → area a (cached w key state x n m) ≡ area a w
   unfolding cached
-  area-cached a p = area-puts a (cacheWrites key state x n m) w (clear-outside a cacheRegion (cacheWrites key state x n m) p tt) inside
+  area-cached a p = area-puts a (cacheWrites key state x n m) w (clear-outside a cachesRegion (cacheWrites key state x n m) p tt) inside
 
   -- the four words that were written
   module _ (l : words ≤ length w) where
@@ -77,14 +74,14 @@ module _ (w : List ℕ) (key state x n m : ℕ) (h : key < requirements) where
         (omega (arith, length-puts (write cacheStates key state ∷ write cacheCandidates key x ∷ write cacheNames key n ∷ []) w)) h tt tt
 
     -- the cache that was written
-    pub memo-written : memoOf (cached w key state x n m) key ≡ memoBy state x n m
-    unfolding memoOf
-    memo-written = rw (at-state, at-candidate, at-name, at-count)
+    pub cache-written : cacheOf (cached w key state x n m) key ≡ cacheBy state x n m
+    unfolding cacheOf
+    cache-written = rw (at-state, at-candidate, at-name, at-count)
 
   -- any other
-  pub memo-else : (j : ℕ) → j ≢ key → memoOf (cached w key state x n m) j ≡ memoOf w j
-  unfolding memoOf cached
-  memo-else j d =
+  pub cache-else : (j : ℕ) → j ≢ key → cacheOf (cached w key state x n m) j ≡ cacheOf w j
+  unfolding cacheOf cached
+  cache-else j d =
       rw (
         at-elsewhere cacheStates j (cacheWrites key state x n m) w inside (inr (refl, d), (inl tt, (inl tt, (inl tt, tt)))),
         at-elsewhere cacheCandidates j (cacheWrites key state x n m) w inside (inl tt, (inr (refl, d), (inl tt, (inl tt, tt)))),
@@ -102,8 +99,8 @@ module _ (w : List ℕ) (key state x n m : ℕ) (h : key < requirements) where
       (sound-put cacheStates 2 key state w tt tt h a s)))
 
 -- "the dead requirement's cache stays dirty": no words say that it is dead
-never-dead : (state x n m : ℕ) → memoBy state x n m ≡ Known Dead → ⊥
-unfolding memoBy
+never-dead : (state x n m : ℕ) → cacheBy state x n m ≡ Known Dead → ⊥
+unfolding cacheBy
 never-dead state x n m = go (eqb state 0) (eqb state 1)
   where
     go : (a b : Bool) → cond a Dirty (cond b (Known (Satisfied x)) (Known (Frontier x n m))) ≡ Known Dead → ⊥
@@ -111,6 +108,6 @@ never-dead state x n m = go (eqb state 0) (eqb state 1)
     go false true q = false≢true (cc)
     go false false q = false≢true (cc)
 
-pub never-known-dead : (w : List ℕ) (key : ℕ) → memoOf w key ≡ Known Dead → ⊥
-unfolding memoOf
+pub never-known-dead : (w : List ℕ) (key : ℕ) → cacheOf w key ≡ Known Dead → ⊥
+unfolding cacheOf
 never-known-dead w key q = never-dead (at cacheStates key w) (at cacheCandidates key w) (at cacheNames key w) (at cacheCounts key w) q

@@ -1,5 +1,5 @@
 pub mod Clauses
-pub mod Memos
+pub mod Visits
 pub mod CacheLaws
 pub mod Small
 pub mod Stand

@@ -9,7 +9,8 @@ use borrow.Author.Tests.{le-leb, leb-true}
 use lib.Dec.{leb}
 use lib.ListN.{length, getD, take, drop, length-take}
 use lib.Seq.{getD-take, getD-drop}
-use Rattle.evaluate.proofs.Cells.{firstThat, freeIn, free-search, trueIn, true-search}
+use Rattle.evaluate.proofs.Froms.{every-both}
+use Rattle.evaluate.proofs.Cells.{firstThat, undecidedIn, undecided-search, trueIn, true-search}
 use Rattle.evaluate.specs.View.{assigned, from, listAt, listsAt}
 use Rattle.requirement.specs.Tables.{cellsOf, firstSlot, listCount, nameOf, setOf}
 use Rattle.rules.specs.Walk.{CandidateList, countUndecided, evaluate, firstTrue, firstUndecided, flattened, frontier, isUndecided, orElse, orNext}
@@ -42,11 +43,6 @@ found-small p (v ∷ vs) x e h = go (p v) h (found-small p vs x (all .1))
     go : (b : Bool) → cond b (At v) (firstThat p vs) ≡ At x → (firstThat p vs ≡ At x → x ≤ lastVariable) → x ≤ lastVariable
     go true q ih = let z : v ≡ x = cc in rw (← z) (leb-true v lastVariable (all .0))
     go false q ih = ih q
-
-every-both : (p : ℕ → Bool) (xs ys : List ℕ) → every p xs ≡ true → every p ys ≡ true → every p (xs ++ ys) ≡ true
-unfolding every
-every-both p [] ys e f = f
-every-both p (x ∷ xs) ys e f = let b = both (p x) (every p xs) e in rw (b .0) (every-both p xs ys (b .1) f)
 
 -- a list has at most as many undecided cells as it has cells
 count-most : (a : ℕ → Value) (vs : List ℕ) → countUndecided a vs ≤ length vs
@@ -92,7 +88,7 @@ module _ (w : List ℕ) (h : Sound w) where
       go : (f : Found) → firstUndecided (assigned w) (cellsOf w t) ≡ f → Small (frontier (assigned w) (from (listAt w) (t + 1) n)) →
           Small (orNext f (nameOf w (setOf w t)) (countUndecided (assigned w) (cellsOf w t)) (frontier (assigned w) (from (listAt w) (t + 1) n)))
       go (At x) e ih = (
-        found-small (freeIn w) (cellsOf w t) x (cells-small t) (free-search w (cellsOf w t) ∙ e),
+        found-small (undecidedIn w) (cellsOf w t) x (cells-small t) (undecided-search w (cellsOf w t) ∙ e),
         name-small (setOf w t),
         omega (arith, count-most (assigned w) (cellsOf w t), cells-few t),
       )

@@ -9,13 +9,13 @@ use native.Mathlib.Omega.{arith}
 use borrow.Author.Tests.{eqb-true, eqb-false}
 use lib.Dec.{T, eqb}
 use lib.ListN.{length}
-use Rattle.evaluate.proofs.Frames.{assigned-same, env-same}
-use Rattle.evaluate.specs.Standing.{envOf, markOf, memoBy, memoOf, ofClause, queueOf}
+use Rattle.evaluate.proofs.Records.{clause-inside, clause-word, key-below}
+use Rattle.evaluate.proofs.Frames.{assigned-same, env-same, cachesRegion}
+use Rattle.evaluate.specs.Standing.{envOf, markOf, cacheBy, cacheOf, ofClause, queueOf}
 use Rattle.evaluate.specs.View.{assigned, listsAt}
-use Rattle.examine.proofs.CacheLaws.{area-cached, cacheRegion, length-cached, memo-else, memo-written, never-known-dead, sound-cached}
-use Rattle.examine.proofs.Clauses.{clause-inside, clause-word, key-below}
+use Rattle.examine.proofs.CacheLaws.{area-cached, length-cached, cache-else, cache-written, never-known-dead, sound-cached}
 use Rattle.examine.proofs.Small.{Small, evaluate-small}
-use Rattle.examine.specs.Cache.{cached, dropped, filled, keyOf, leftBy, refreshed, saved, seenAt, visited, wordOperations}
+use Rattle.examine.specs.Cache.{cached, dropped, filled, clauseKey, visitedBy, refreshed, saved, seenAt, visited, wordOperations}
 use Rattle.rules.proofs.Kept.{Stands, words-answer}
 use Rattle.rules.specs.Invariant.{Holds}
 use Rattle.rules.specs.Queue.{fill, keep, queuedFrom, seen, stateIn, unmark}
@@ -26,8 +26,8 @@ use Rattle.store.specs.Area.{Area, apart, area, at}
 use Rattle.store.specs.Layout.{cacheCandidates, cacheCounts, cacheNames, cacheStates, clauseCount, environmentRegion, map, queueRegion, queued}
 use Rattle.store.specs.Limits.{cellRoom, lastName, lastVariable}
 use Rattle.store.specs.Shape.{Sound}
-use Rattle.rules.specs.declared.Memo.{Memo}
-use Rattle.rules.specs.declared.Memo.the-variants.{Dirty, Known}
+use Rattle.rules.specs.declared.Cache.{Cache}
+use Rattle.rules.specs.declared.Cache.the-variants.{Dirty, Known}
 use Rattle.rules.specs.declared.Seen.{Seen}
 use Rattle.rules.specs.declared.Seen.the-variants.{Shut, Open, Gone}
 use Rattle.rules.specs.declared.State.{State}
@@ -36,7 +36,7 @@ use Rattle.trail.specs.declared.Value.{Value}
 
 -- an examination leaves the words, or writes its requirement's cache with numbers in range: what holds of both holds of what it leaves
 module _ (P : List ℕ → Type 0) (w : List ℕ) (key : ℕ) (same : P w) (step : (state x n m : ℕ) → state ≤ 2 → x ≤ lastVariable → n ≤ lastName → m ≤ cellRoom → P (cached w key state x n m)) where
-  refreshed-leaves : (m : Memo) (t : State) → Small t → P (refreshed w key m t)
+  refreshed-leaves : (m : Cache) (t : State) → Small t → P (refreshed w key m t)
   unfolding saved
   refreshed-leaves (Known u) t s = same
   refreshed-leaves Dirty (Satisfied x) s = step 1 x 0 0 (omega arith) s (omega arith) (omega arith)
@@ -45,7 +45,7 @@ module _ (P : List ℕ → Type 0) (w : List ℕ) (key : ℕ) (same : P w) (step
 
 module _ (w : List ℕ) (h : Sound w) (k : ℕ) where
   key : ℕ
-  key = keyOf w k
+  key = clauseKey w k
 
   state : State
   state = evaluate (assigned w) (listsAt w key)
@@ -54,8 +54,8 @@ module _ (w : List ℕ) (h : Sound w) (k : ℕ) where
   unfolding filled key state
   filled-leaves P same step = go (active (envOf w) (assigned w) k)
     where
-      go : (b : Bool) → P (cond b (refreshed w key (memoOf w key) state) w)
-      go true = refreshed-leaves P w key same step (memoOf w key) state (evaluate-small w h key)
+      go : (b : Bool) → P (cond b (refreshed w key (cacheOf w key) state) w)
+      go true = refreshed-leaves P w key same step (cacheOf w key) state (evaluate-small w h key)
       go false = same
 
   -- an examination keeps a store sound, and all but the caches
@@ -67,33 +67,33 @@ module _ (w : List ℕ) (h : Sound w) (k : ℕ) where
   unfolding key
   length-filled = filled-leaves (λ u. length u ≡ length w) refl (λ s x n m a b c d. length-cached w key s x n m (key-below w k h))
 
-  area-filled : (r : Area) → T (apart r cacheRegion) → area r (filled w k) ≡ area r w
+  area-filled : (r : Area) → T (apart r cachesRegion) → area r (filled w k) ≡ area r w
   unfolding key
   area-filled r p = filled-leaves (λ u. area r u ≡ area r w) refl (λ s x n m a b c d. area-cached w key s x n m (key-below w k h) r p)
 
   pub filled-outside : (r : Area) → T (apart r queueRegion) → area r (filled w k) ≡ area r w
-  filled-outside r p = area-filled r (apart-inside r cacheRegion queueRegion p tt)
+  filled-outside r p = area-filled r (apart-inside r cachesRegion queueRegion p tt)
 
   -- the cache that it fills, and the others
-  memo-refreshed : (m : Memo) (t : State) → memoOf w key ≡ m → memoOf (refreshed w key m t) key ≡ keep (stateIn m t)
-  unfolding saved memoBy key
-  memo-refreshed (Known (Satisfied x)) t e = e
-  memo-refreshed (Known (Frontier x n m)) t e = e
-  memo-refreshed (Known Dead) t e = absurd (never-known-dead w key e)
-  memo-refreshed Dirty (Satisfied x) e = memo-written w key 1 x 0 0 (key-below w k h) (h .long)
-  memo-refreshed Dirty (Frontier x n m) e = memo-written w key 2 x n m (key-below w k h) (h .long)
-  memo-refreshed Dirty Dead e = e
+  cache-refreshed : (m : Cache) (t : State) → cacheOf w key ≡ m → cacheOf (refreshed w key m t) key ≡ keep (stateIn m t)
+  unfolding saved cacheBy key
+  cache-refreshed (Known (Satisfied x)) t e = e
+  cache-refreshed (Known (Frontier x n m)) t e = e
+  cache-refreshed (Known Dead) t e = absurd (never-known-dead w key e)
+  cache-refreshed Dirty (Satisfied x) e = cache-written w key 1 x 0 0 (key-below w k h) (h .long)
+  cache-refreshed Dirty (Frontier x n m) e = cache-written w key 2 x n m (key-below w k h) (h .long)
+  cache-refreshed Dirty Dead e = e
 
-  memo-filled : (j : ℕ) → memoOf (filled w k) j ≡ (fill (envOf w) (assigned w) (queueOf w) k) .memo j
+  cache-filled : (j : ℕ) → cacheOf (filled w k) j ≡ (fill (envOf w) (assigned w) (queueOf w) k) .cache j
   unfolding filled key state
-  memo-filled j = go (active (envOf w) (assigned w) k) (eqb j key) refl
+  cache-filled j = go (active (envOf w) (assigned w) k) (eqb j key) refl
     where
-      go : (b c : Bool) → eqb j key ≡ c → memoOf (cond b (refreshed w key (memoOf w key) state) w) j ≡ elim (b && c) as (λ _. Memo) [ true ↦ keep (stateIn (memoOf w j) (evaluate (assigned w) (listsAt w j))) | false ↦ memoOf w j ]
-      go true true e = rw (eqb-true j key e) (memo-refreshed (memoOf w key) state refl)
+      go : (b c : Bool) → eqb j key ≡ c → cacheOf (cond b (refreshed w key (cacheOf w key) state) w) j ≡ elim (b && c) as (λ _. Cache) [ true ↦ keep (stateIn (cacheOf w j) (evaluate (assigned w) (listsAt w j))) | false ↦ cacheOf w j ]
+      go true true e = rw (eqb-true j key e) (cache-refreshed (cacheOf w key) state refl)
       go true false e =
-          refreshed-leaves (λ u. memoOf u j ≡ memoOf w j) w key refl
-          (λ s x n m a b c d. memo-else w key s x n m (key-below w k h) j (eqb-false j key e))
-          (memoOf w key) state (evaluate-small w h key)
+          refreshed-leaves (λ u. cacheOf u j ≡ cacheOf w j) w key refl
+          (λ s x n m a b c d. cache-else w key s x n m (key-below w k h) j (eqb-false j key e))
+          (cacheOf w key) state (evaluate-small w h key)
       go false c e = refl
 
   mark-filled : (j : ℕ) → markOf (filled w k) j ≡ markOf w j
@@ -102,7 +102,7 @@ module _ (w : List ℕ) (h : Sound w) (k : ℕ) where
 
   -- the words after an examination stand for the queue that `fill` leaves
   pub fill-is : queueOf (filled w k) ≡ fill (envOf w) (assigned w) (queueOf w) k
-  fill-is = λ i. record { mark = fun-ext mark-filled i; memo = fun-ext memo-filled i }
+  fill-is = λ i. record { mark = fun-ext mark-filled i; cache = fun-ext cache-filled i }
 
 -- a drop
 module _ (w : List ℕ) (h : Sound w) (k : ℕ) (l : k < at clauseCount 0 w) where
@@ -124,9 +124,9 @@ module _ (w : List ℕ) (h : Sound w) (k : ℕ) (l : k < at clauseCount 0 w) whe
   mark-dropped j true e = rw (eqb-true j k e, clause-word queued (dropped w k) k (rw count-kept l), at-put-same queued k 0 w (clause-inside w h k l) (omega (arith, h .long)))
   mark-dropped j false e = rw (word-dropped j (eqb-false j k e))
 
-  memo-dropped : (j : ℕ) → memoOf (dropped w k) j ≡ memoOf w j
-  unfolding memoOf
-  memo-dropped j =
+  cache-dropped : (j : ℕ) → cacheOf (dropped w k) j ≡ cacheOf w j
+  unfolding cacheOf
+  cache-dropped j =
       rw (
         at-kept cacheStates queued k j 0 w tt (clause-inside w h k l),
         at-kept cacheCandidates queued k j 0 w tt (clause-inside w h k l),
@@ -136,7 +136,7 @@ module _ (w : List ℕ) (h : Sound w) (k : ℕ) (l : k < at clauseCount 0 w) whe
 
   -- the words after a drop stand for the queue without the clause
   pub drop-is : queueOf (dropped w k) ≡ unmark (queueOf w) k
-  drop-is = λ i. record { mark = fun-ext (λ j. mark-dropped j (eqb j k) refl) i; memo = fun-ext memo-dropped i }
+  drop-is = λ i. record { mark = fun-ext (λ j. mark-dropped j (eqb j k) refl) i; cache = fun-ext cache-dropped i }
 
 -- a sound store that differs from another in the queue's region at most
 pub record Beside (s w : List ℕ) : Type 0 where
@@ -183,7 +183,7 @@ pub beside-visited : (s w : List ℕ) → Beside s w → (k : ℕ) → k < at cl
 unfolding visited
 beside-visited s w g k l = go (markOf s k) (seenAt s k)
   where
-    go : (b : Bool) (v : Seen) → Beside (leftBy b v s (filled s k) (dropped (filled s k) k)) w
+    go : (b : Bool) (v : Seen) → Beside (visitedBy b v s (filled s k) (dropped (filled s k) k)) w
     go false v = g
     go true Shut = beside-dropped (filled s k) w (beside-filled s w g k) k l
     go true (Open x n m) = beside-filled s w g k

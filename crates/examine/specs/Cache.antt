@@ -2,14 +2,15 @@
 use mathlib.Core.Bool.{Bool, true, false, cond}
 use mathlib.Core.List.{List, [], _∷_}
 use Prim.Native.Nat.{ℕ}
-use Rattle.evaluate.specs.Standing.{envOf, memoOf, markOf, queueOf, ofClause}
+use Rattle.evaluate.specs.Standing.{envOf, cacheOf, markOf, queueOf, ofClause}
 use Rattle.evaluate.specs.View.{assigned, listsAt}
 use Rattle.rules.specs.Queue.{Operations, seen}
 use Rattle.rules.specs.Walk.{active, evaluate}
 use Rattle.store.specs.Area.{Write, put, puts, write}
+use Rattle.store.specs.Codes.{satisfied, frontier}
 use Rattle.store.specs.Layout.{queued, cacheStates, cacheCandidates, cacheNames, cacheCounts, clauseRequirements}
-use Rattle.rules.specs.declared.Memo.{Memo}
-use Rattle.rules.specs.declared.Memo.the-variants.{Dirty, Known}
+use Rattle.rules.specs.declared.Cache.{Cache}
+use Rattle.rules.specs.declared.Cache.the-variants.{Dirty, Known}
 use Rattle.rules.specs.declared.Seen.{Seen}
 use Rattle.rules.specs.declared.Seen.the-variants.{Shut, Open, Gone}
 use Rattle.rules.specs.declared.State.{State}
@@ -21,32 +22,34 @@ use Rattle.examine.specs.declared.Met.the-variants.{Unqueued, Dropped, O
 abbrev pub cacheWrites : ℕ → ℕ → ℕ → ℕ → ℕ → List Write
 cacheWrites key state candidate name count = write cacheStates key state ∷ write cacheCandidates key candidate ∷ write cacheNames key name ∷ write cacheCounts key count ∷ []
 
+-- the words once a cache is written
 unfoldable pub cached : List ℕ → ℕ → ℕ → ℕ → ℕ → ℕ → List ℕ
 cached w key state candidate name count = puts (cacheWrites key state candidate name count) w
 
 -- "caches filled; the dead requirement's cache stays dirty"
 unfoldable pub saved : List ℕ → ℕ → State → List ℕ
-saved w key (Satisfied x) = cached w key 1 x 0 0
-saved w key (Frontier x n m) = cached w key 2 x n m
+saved w key (Satisfied x) = cached w key satisfied x 0 0
+saved w key (Frontier x n m) = cached w key frontier x n m
 saved w key Dead = w
 
 -- a cache that is not dirty is believed and left; a dirty one gets what its requirement is
-abbrev pub refreshed : List ℕ → ℕ → Memo → State → List ℕ
+abbrev pub refreshed : List ℕ → ℕ → Cache → State → List ℕ
 refreshed w key Dirty t = saved w key t
 refreshed w key (Known u) t = w
 
 -- the key of a clause's requirement
-abbrev pub keyOf : List ℕ → ℕ → ℕ
-keyOf w k = ofClause clauseRequirements w k
+abbrev pub clauseKey : List ℕ → ℕ → ℕ
+clauseKey w k = ofClause clauseRequirements w k
 
--- what an examination of clause k finds, and the words that it leaves: only an active clause's cache is asked, and filled
+-- what an examination of clause k finds: only an active clause's cache is asked
 unfoldable pub seenAt : List ℕ → ℕ → Seen
 seenAt w k = seen (envOf w) (assigned w) (queueOf w) k
 
+-- "caches filled": the words after the examination of clause k
 unfoldable pub filled : List ℕ → ℕ → List ℕ
 filled w k =
     cond (active (envOf w) (assigned w) k)
-    (refreshed w (keyOf w k) (memoOf w (keyOf w k)) (evaluate (assigned w) (listsAt w (keyOf w k))))
+    (refreshed w (clauseKey w k) (cacheOf w (clauseKey w k)) (evaluate (assigned w) (listsAt w (clauseKey w k))))
     w
 
 -- a clause leaves the queue
@@ -64,14 +67,17 @@ metBy true Shut = Dropped
 metBy true (Open x n m) = Opened x n m
 metBy true Gone = MetDead
 
-abbrev pub leftBy : Bool → Seen → List ℕ → List ℕ → List ℕ → List ℕ
-leftBy false v w f d = w
-leftBy true Shut w f d = d
-leftBy true (Open x n m) w f d = f
-leftBy true Gone w f d = f
+-- the words that a visit leaves: a clause that is shut leaves the queue
+abbrev pub visitedBy : Bool → Seen → List ℕ → List ℕ → List ℕ → List ℕ
+visitedBy false v w f d = w
+visitedBy true Shut w f d = d
+visitedBy true (Open x n m) w f d = f
+visitedBy true Gone w f d = f
 
+-- what a visit of clause k meets
 unfoldable pub metAt : List ℕ → ℕ → Met
 metAt w k = metBy (markOf w k) (seenAt w k)
 
+-- and the words that it leaves
 unfoldable pub visited : List ℕ → ℕ → List ℕ
-visited w k = leftBy (markOf w k) (seenAt w k) w (filled w k) (dropped (filled w k) k)
+visited w k = visitedBy (markOf w k) (seenAt w k) w (filled w k) (dropped (filled w k) k)

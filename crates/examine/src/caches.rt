@@ -4,29 +4,30 @@ ghost use Prim.Native.Nat.{_≤_, _<_};
 ghost use lib.ListN.{length};
 ghost use Rattle.store.specs.Layout.{words};
 ghost use Rattle.store.specs.Limits.{requirements};
-ghost use Rattle.evaluate.specs.Standing.{memoOf};
+ghost use Rattle.evaluate.specs.Standing.{cacheOf};
 ghost use Rattle.examine.specs.Cache.{cached, saved};
-use rules::Memo;
+use rules::Cache;
 use rules::State;
+use store::codes;
 use store::read;
 use store::write;
 
 // What the cache says.
-pub fn recall(s: &[u32], key: usize) -> Memo
+pub fn recall(s: &[u32], key: usize) -> Cache
     requires { ⌜ (words ≤ length (now s)) × (key < requirements) ⌝ }
-    ensures { λ r. ⌜ r ≡ memoOf (now (s .entry)) key ⌝ }
+    ensures { λ r. ⌜ r ≡ cacheOf (now (s .entry)) key ⌝ }
 {
     let state = read::cache_state(s, key);
-    if state == 0 {
-        return Memo::Dirty;
+    if state == codes::DIRTY {
+        return Cache::Dirty;
     }
     let candidate = read::cache_candidate(s, key);
-    if state == 1 {
-        return Memo::Known(State::Satisfied(candidate));
+    if state == codes::SATISFIED {
+        return Cache::Known(State::Satisfied(candidate));
     }
     let name = read::cache_name(s, key);
     let count = read::cache_count(s, key);
-    Memo::Known(State::Frontier {
+    Cache::Known(State::Frontier {
         candidate,
         name,
         count,
@@ -50,12 +51,12 @@ pub fn save(s: &mut [u32], key: usize, state: State)
     ensures { λ _. ⌜ now (s .exit) ≡ saved (now (s .entry)) key state ⌝ }
 {
     match state {
-        State::Satisfied(x) => write_cache(s, key, 1, x, 0, 0),
+        State::Satisfied(x) => write_cache(s, key, codes::SATISFIED, x, 0, 0),
         State::Frontier {
             candidate,
             name,
             count,
-        } => write_cache(s, key, 2, candidate, name, count),
+        } => write_cache(s, key, codes::FRONTIER, candidate, name, count),
         State::Dead => {}
     }
 }

@@ -11,9 +11,9 @@ ghost use Rattle.examine.specs.Cache.{seenAt, filled, metAt, visited};
 use crate::Met;
 use crate::caches;
 use evaluate::assignment;
-use evaluate::conditions;
+use evaluate::condition;
 use evaluate::lists;
-use rules::Memo;
+use rules::Cache;
 use rules::Seen;
 use rules::State;
 use store::read;
@@ -26,7 +26,7 @@ fn is_active(s: &[u32], k: usize) -> bool
     ensures { λ r. ⌜ r ≡ active (envOf (now (s .entry))) (assigned (now (s .entry))) k ⌝ }
 {
     if assignment::is_true(s, read::parent(s, k)) {
-        return conditions::passes(s, read::condition(s, k));
+        return condition::passes(s, read::condition(s, k));
     }
     false
 }
@@ -57,10 +57,10 @@ pub fn inspect(s: &mut [u32], k: usize) -> Seen
 {
     if is_active(s, k) {
         let key = wide(read::requirement(s, k));
-        let memo = caches::recall(s, key);
-        match memo {
-            Memo::Known(known) => seen_as(known),
-            Memo::Dirty => {
+        let cache = caches::recall(s, key);
+        match cache {
+            Cache::Known(known) => seen_as(known),
+            Cache::Dirty => {
                 let state = lists::eval_at(s, key);
                 caches::save(s, key, state);
                 seen_as(state)

@@ -1,5 +1,5 @@
-// Examining a clause: what it is by its requirement's cache or, where that is dirty, by its lists. The layers above, which have tested the
-// shape, call these.
+// Examining a clause: what it is by its requirement's cache or, where that is dirty, by its lists. The public calls above test
+// the shape first.
 pub mod caches;
 pub mod inspection;
 

@@ -9,7 +9,7 @@ use Rattle.evaluate.proofs.Froms.{length-mirror, length-trail}
 use Rattle.evaluate.specs.Standing.{envOf, queueOf, storeOf}
 use Rattle.evaluate.specs.View.{assigned}
 use Rattle.examine.proofs.Stand.{word-walk}
-use Rattle.proposal.specs.Propose.{answer, proposalIn, proposalInStore, told, unsynced}
+use Rattle.proposal.specs.Propose.{answer, proposalIn, told, unsynced}
 use Rattle.rules.specs.Invariant.{Holds}
 use Rattle.rules.specs.Store.{Synced}
 use Rattle.rules.specs.Walk.{walk}
@@ -24,11 +24,6 @@ module _ (w : List ℕ) (h : Sound w) (q : Holds (envOf w) (assigned w) [] (queu
   pub proposal-is : proposalIn w ≡ told w (walk (envOf w) (assigned w)) (answer w .drops)
   unfolding proposalIn answer
   proposal-is = ap (λ (o : Out). told w o (answer w .drops)) (word-walk w h q .0)
-
-  -- and the queue that is left is right for it too
-  pub proposal-holds : Holds (envOf w) (assigned w) [] (queueOf (proposalInStore w))
-  unfolding proposalInStore answer
-  proposal-holds = word-walk w h q .1 .1
 
 -- what is not refused by number 7 is synced, in the words' store too
 module _ (w : List ℕ) (h : Sound w) where

@@ -1,14 +1,13 @@
 -- Where the walk's two loops stand: what is left of the walk, from here, is the whole answer. Assumes nothing.
-use mathlib.Core.Bool.{Bool, true, false, cond, _&&_}
+use mathlib.Core.Bool.{Bool, true, false, cond}
 use mathlib.Core.List.{List, _∷_}
 use mathlib.Core.Path.{_≡_, refl, sym, ap, _∙_}
 use Prim.Native.Nat.{ℕ, _+_, _-_, _≤_, _<_}
 use native.Mathlib.Numerals.{add-one}
 use native.Mathlib.Omega.{arith}
-use lib.Dec.{ltb}
 use lib.Ieee.{binary32, ofBits}
+use Rattle.evaluate.proofs.Records.{clause-word}
 use Rattle.evaluate.specs.Standing.{envOf, markOf, ofClause}
-use Rattle.examine.proofs.Clauses.{clause-word}
 use Rattle.examine.proofs.Stand.{Beside, at-beside, beside-self, beside-visited, clause-beside, env-beside}
 use Rattle.examine.specs.Cache.{metAt, visited, wordOperations}
 use Rattle.proposal.proofs.Kept.{answer-beside}
@@ -16,6 +15,7 @@ use Rattle.proposal.proofs.Steps.{activity-most}
 use Rattle.proposal.proofs.Unrolling.{first-dead, first-dropped, first-open, first-unqueued, ranks-done, ranks-next, second-enough, second-fatal, second-on, second-stop}
 use Rattle.proposal.specs.Propose.{Sane, answer, choosing, dying, ended, first, proposalIn, proposalInStore, second, told}
 use Rattle.proposal.specs.Turn.{Fine, bestAt, largestAt, passedAt, stopsAt, topAt, weighBy, weighOf, weighed}
+use Rattle.rules.proofs.Cases.{better-either}
 use Rattle.rules.specs.Queue.{Answer, queuedFrom, queuedOn}
 use Rattle.rules.specs.Walk.{Environment, best, better, largest, ranksFrom}
 use Rattle.store.proofs.Choice.{true-false}
@@ -47,14 +47,14 @@ pub as-told : (w s : List ℕ) (r q : Walked) (whole : Answer (List ℕ)) → r 
 as-told w s r q whole e a h = (rw e a, rw e h)
 
 -- a best is as fine in a store beside
-pub fine-beside : (s w : List ℕ) (b : Best) → Beside s w → Fine w b → Fine s b
+fine-beside : (s w : List ℕ) (b : Best) → Beside s w → Fine w b → Fine s b
 fine-beside s w b g f = record { clause< = clause-beside s w g (b .clause) (f .clause<); activity≤ = f .activity≤ }
 
 pub best-good : (w : List ℕ) (b : Best) (k x n m : ℕ) → Sound w → b ≡ bestAt w k x n m → b .activity ≤ lastActivity
 unfolding bestAt
 best-good w b k x n m h e = activity-most w h n (b .activity) (ap (λ (y : Best). y .activity) e)
 
-pub best-fine : (w : List ℕ) (b : Best) (k x n m : ℕ) → Sound w → k < at clauseCount 0 w → b ≡ bestAt w k x n m → Fine w b
+best-fine : (w : List ℕ) (b : Best) (k x n m : ℕ) → Sound w → k < at clauseCount 0 w → b ≡ bestAt w k x n m → Fine w b
 unfolding bestAt
 best-fine w b k x n m h l e = record { clause< = rw (ap (λ (y : Best). y .clause) e) l; activity≤ = best-good w b k x n m h e }
 
@@ -108,12 +108,7 @@ pub record Weighing (w : List ℕ) (b : Best) (x : ℕ) : Type 0 where
   pub fine : Fine w b
 
 module _ (w : List ℕ) (b : Best) (k : ℕ) (ok : Sound w) (l : k < at clauseCount 0 w) (fine : Fine w b) where
-  better-fine : (p q : Bool) (d : Best) → Fine w d → Weighing w (elim (p && q) as (λ _. Best) [ true ↦ d | false ↦ b ]) 0
-  better-fine true true d f = record { few = omega arith; fine = f }
-  better-fine true false d f = record { few = omega arith; fine = fine }
-  better-fine false q d f = record { few = omega arith; fine = fine }
-
-  pub weighing : (c : Best) (x : ℕ) → weighOf w b k ≡ On c x → Weighing w c x
+  weighing : (c : Best) (x : ℕ) → weighOf w b k ≡ On c x → Weighing w c x
   unfolding weighOf bestAt
   weighing c x e = go (markOf w k) (stopsAt w b) (passedAt w b k) (metAt w k) e
     where
@@ -132,10 +127,10 @@ module _ (w : List ℕ) (b : Best) (k : ℕ) (ok : Sound w) (l : k < at clauseCo
       go true false false (Opened y n m) q =
           let p : better b (bestAt w k y n m) ≡ c = cc in
           let f : 0 ≡ x = cc in
-          rw (← p, ← f) (better-fine (ltb (b .activity) (at activities n w)) (ltb m (b .count)) (bestAt w k y n m) (best-fine w (bestAt w k y n m) k y n m ok l refl))
+          rw (← p, ← f) (record { few = omega arith; fine = better-either (Fine w) b (bestAt w k y n m) fine (best-fine w (bestAt w k y n m) k y n m ok l refl) })
       go true false false MetDead q = absurd (true-false (cc))
 
-pub beside-weighed : (s w : List ℕ) → Beside s w → (b : Best) (k : ℕ) → k < at clauseCount 0 w → Beside (weighed s b k) w
+beside-weighed : (s w : List ℕ) → Beside s w → (b : Best) (k : ℕ) → k < at clauseCount 0 w → Beside (weighed s b k) w
 unfolding weighed
 beside-weighed s w g b k l = go (markOf s k) (stopsAt s b) (passedAt s b k)
   where
@@ -331,7 +326,7 @@ module _ (w s : List ℕ) (r : Walked) (ok : Sound w) (e : ended r s ≡ answer 
   unfolding proposalIn
   told-is o h = sym (ap (λ (o : Out). told w o (r .drops)) h) ∙ ap (λ (x : Answer (List ℕ)). told w (x .out) (x .drops)) e
 
-  pub walked-beside : Beside s w
+  walked-beside : Beside s w
   unfolding proposalInStore
   walked-beside = rw left-told (answer-beside w ok)
 

@@ -8,14 +8,15 @@ use native.Mathlib.Numerals.{add-one}
 use native.Mathlib.Omega.{arith}
 use borrow.Author.Tests.{eq-eqb, ne-eqb, lt-ltb, le-ltb, ltb-true, ltb-false}
 use lib.Dec.{eqb, ltb}
+use Rattle.evaluate.proofs.Records.{clause-word}
 use Rattle.evaluate.proofs.Turns.{from-next, from-done}
 use Rattle.evaluate.specs.Standing.{envOf}
 use Rattle.evaluate.specs.View.{from, listAt, listsAt}
-use Rattle.examine.proofs.Clauses.{clause-word}
 use Rattle.proposal.specs.Propose.{unsynced}
 use Rattle.proposal.specs.Turn.{bestAt, coldAt, hotAt, largestAt, passedAt, shieldedAt, stopsAt, topAt}
 use Rattle.requirement.specs.Tables.{firstSlot, listCount, nameOf, setOf}
 use Rattle.rules.specs.Walk.{anyHot, better, largest}
+use Rattle.store.proofs.Choice.{or-none, or-true}
 use Rattle.store.specs.Area.{at}
 use Rattle.store.specs.Layout.{activities, clauseCount, clauseParents, clauseRequirements, hotNames, mirrorLength, mode, setNames, syncFloor, trailLength}
 use Rattle.store.specs.Limits.{lastActivity, names}
@@ -54,14 +55,6 @@ module _ (w : List ℕ) (x : ℕ) (e : x ≡ at mode 0 w) where
   not-standard h = rw (← e, ne-eqb x 1 h)
 
 -- which clauses are passed over
-or-true : (b : Bool) → b || true ≡ true
-or-true true = refl
-or-true false = refl
-
-or-false : (b : Bool) → b || false ≡ b
-or-false true = refl
-or-false false = refl
-
 module _ (w : List ℕ) (k : ℕ) where
   pub cold-by : (h : Bool) → envOf w .standard ≡ true → h ≡ hotAt w k → not h ≡ coldAt w k
   unfolding hotAt coldAt
@@ -80,7 +73,7 @@ module _ (w : List ℕ) (b : Best) (k : ℕ) where
   passed-shielded p = sym (passed-is ∙ ap (λ t. coldAt w k || t) p ∙ or-true (coldAt w k))
 
   pub passed-cold : shieldedAt w b k ≡ false → coldAt w k ≡ passedAt w b k
-  passed-cold p = sym (passed-is ∙ ap (λ t. coldAt w k || t) p ∙ or-false (coldAt w k))
+  passed-cold p = sym (passed-is ∙ ap (λ t. coldAt w k || t) p ∙ or-none (coldAt w k))
 
   module _ (l : k < at clauseCount 0 w) (m : b .clause < at clauseCount 0 w) (j x : ℕ) (e : j ≡ b .clause) (q : x ≡ at clauseParents j w) where
     pub shielded-by : (y : ℕ) → x ≡ 0 → y ≡ at clauseParents k w → not (eqb y 0) ≡ shieldedAt w b k

@@ -7,7 +7,7 @@ use native.Mathlib.Nat.{add-zero}
 use native.Mathlib.Numerals.{add-one}
 use native.Mathlib.Omega.{arith}
 use Rattle.evaluate.specs.Standing.{envOf, markOf}
-use Rattle.examine.specs.Cache.{dropped, filled, leftBy, metAt, metBy, seenAt, visited, wordOperations}
+use Rattle.examine.specs.Cache.{dropped, filled, visitedBy, metAt, metBy, seenAt, visited, wordOperations}
 use Rattle.proposal.specs.Turn.{bestAt, passedAt, stopsAt, weighBy, weighOf, weighed}
 use Rattle.rules.specs.Queue.{answer, queuedFrom, queuedOn}
 use Rattle.rules.specs.Walk.{Environment, best, better, ranksFrom}
@@ -36,7 +36,7 @@ ranks-done k n h =
 -- one clause on the way to the first best
 module _ (e : Environment) (s : List ℕ) (k : ℕ) (ks : List ℕ) (d : ℕ) where
   abbrev left : Bool → Seen → List ℕ
-  left m v = leftBy m v s (filled s k) (dropped (filled s k) k)
+  left m v = visitedBy m v s (filled s k) (dropped (filled s k) k)
 
   pub first-unqueued : metAt s k ≡ Unqueued → queuedFrom wordOperations e (k ∷ ks) d s ≡ queuedFrom wordOperations e ks d (visited s k)
   unfolding metAt visited queuedFrom
@@ -91,7 +91,7 @@ second-stop s b (k ∷ ks) d h = rw (h, queuedOn)
 -- one clause after the first best
 module _ (s : List ℕ) (b : Best) (k : ℕ) (ks : List ℕ) (d : ℕ) where
   abbrev leaves : Bool → Bool → Bool → Seen → List ℕ
-  leaves m t p v = cond m (cond t s (cond p s (leftBy m v s (filled s k) (dropped (filled s k) k)))) s
+  leaves m t p v = cond m (cond t s (cond p s (visitedBy m v s (filled s k) (dropped (filled s k) k)))) s
 
   abbrev weighs : Bool → Bool → Bool → Seen → Weighed
   weighs m t p v = weighBy m t p (metBy m v) b (λ x n m. better b (bestAt s k x n m))

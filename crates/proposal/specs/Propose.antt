@@ -20,10 +20,11 @@ use Rattle.proposal.specs.declared.Proposal.{Proposal}
 use Rattle.proposal.specs.declared.Proposal.the-variants.{Choose as Chosen, Nothing as NoneOpen, Dead as DeadAt, Refused}
 use Rattle.proposal.specs.declared.decide_queue.Walked.{Walked}
 
--- the two parts of the walk, from rank k on: to the first best, and after it
+-- the walk from rank k on, to the first best
 abbrev pub first : List ℕ → ℕ → ℕ → List ℕ → Answer (List ℕ)
 first w k d s = queuedFrom wordOperations (envOf w) (ranksFrom k (at clauseCount 0 w - k)) d s
 
+-- after the first best b
 abbrev pub second : List ℕ → Best → ℕ → ℕ → List ℕ → Answer (List ℕ)
 second w b k d s = queuedOn wordOperations (envOf w) b (ranksFrom k (at clauseCount 0 w - k)) d s
 
@@ -31,13 +32,15 @@ second w b k d s = queuedOn wordOperations (envOf w) b (ranksFrom k (at clauseCo
 unfoldable pub answer : List ℕ → Answer (List ℕ)
 answer w = queuedFrom wordOperations (envOf w) (ranks (envOf w .size)) 0 w
 
--- how it ends: at its best, or at a dead clause
+-- it ends at its best
 abbrev pub choosing : Best → ℕ → Walked
 choosing b d = record { out = Choose b; drops = d }
 
+-- at a dead clause of this id
 abbrev pub dying : ℕ → ℕ → Walked
 dying id d = record { out = DeadClause id; drops = d }
 
+-- an end of the walk with the words that it leaves
 abbrev pub ended : Walked → List ℕ → Answer (List ℕ)
 ended r s = record { out = r .out; drops = r .drops; left = s }
 
@@ -46,15 +49,17 @@ pub record Sane (w : List ℕ) (o : Out) : Type 0 where
   pub chosen : (b : Best) → o ≡ Choose b → Fine w b
 
 -- "The answer carries candidate, parent, clause id, activity as f32, count, and the number of clauses dropped from the queue by this call;
--- nothing and refusal 8 carry that number too"
+-- "nothing" and refusal 8 carry that number too"
 abbrev pub told : List ℕ → Out → ℕ → Proposal
 told w Nothing d = NoneOpen d
 told w (DeadClause c) d = DeadAt c d
 told w (Choose b) d = Chosen (b .candidate) (ofClause clauseParents w (b .clause)) (ofClause clauseIds w (b .clause)) (ofBits binary32 (b .activity)) (b .count) d
 
+-- on a store of sound shape
 unfoldable pub proposalIn : List ℕ → Proposal
 proposalIn w = told w (answer w .out) (answer w .drops)
 
+-- and the words that it leaves
 unfoldable pub proposalInStore : List ℕ → List ℕ
 proposalInStore w = answer w .left
 
@@ -66,6 +71,7 @@ unsynced w = ltb (at syncFloor 0 w) (at mirrorLength 0 w) || ltb (at mirrorLengt
 unfoldable pub proposalOut : List ℕ → Proposal
 proposalOut w = cond (soundShape w) (cond (unsynced w) (Refused 7) (proposalIn w)) (Refused 1)
 
+-- the words left, on any words
 unfoldable pub proposalStore : List ℕ → List ℕ
 proposalStore w = cond (soundShape w) (cond (unsynced w) w (proposalInStore w)) w
 

@@ -7,6 +7,7 @@ use Rattle.evaluate.specs.Standing.{envOf, markOf, ofClause}
 use Rattle.examine.specs.Cache.{metAt, visited}
 use Rattle.rules.specs.Walk.{best, better, isHot, largest, passedOver, stops}
 use Rattle.store.specs.Area.{at}
+use Rattle.store.specs.Codes.{root}
 use Rattle.store.specs.Layout.{clauseCount, clauseParents}
 use Rattle.store.specs.Limits.{names, lastActivity}
 use Rattle.examine.specs.declared.Met.{Met}
@@ -25,8 +26,9 @@ coldAt w k = envOf w .standard && not (isHot (envOf w) k)
 
 -- "If the best's parent is the root, clauses of other parents are passed over unexamined"
 unfoldable pub shieldedAt : List ℕ → Best → ℕ → Bool
-shieldedAt w b k = eqb (ofClause clauseParents w (b .clause)) 0 && not (eqb (ofClause clauseParents w k) 0)
+shieldedAt w b k = eqb (ofClause clauseParents w (b .clause)) root && not (eqb (ofClause clauseParents w k) root)
 
+-- whether a clause is passed over
 unfoldable pub passedAt : List ℕ → Best → ℕ → Bool
 passedAt w b k = passedOver (envOf w) b k
 
@@ -38,9 +40,11 @@ largestAt w n = largest (envOf w .activity) n
 unfoldable pub topAt : List ℕ → ℕ
 topAt w = cond (envOf w .standard) (largestAt w names) 0
 
+-- "Stop as soon as the best's count is 1, or in standard mode when its activity is the largest stored"
 unfoldable pub stopsAt : List ℕ → Best → Bool
 stopsAt w b = stops (envOf w) b
 
+-- a clause as the best
 unfoldable pub bestAt : List ℕ → ℕ → ℕ → ℕ → ℕ → Best
 bestAt w k candidate name count = best (envOf w) k candidate name count
 
@@ -49,7 +53,7 @@ pub record Fine (w : List ℕ) (b : Best) : Type 0 where
   pub clause< : b .clause < at clauseCount 0 w
   pub activity≤ : b .activity ≤ lastActivity
 
--- what a clause does to the best so far, and the words that it leaves: one that is not queued is skipped, whether the walk stops or not
+-- what a clause does to the best so far: one that is not queued is skipped, whether the walk stops or not
 abbrev pub weighBy : Bool → Bool → Bool → Met → Best → (ℕ → ℕ → ℕ → Best) → Weighed
 weighBy false stop passed v b f = On b 0
 weighBy true true passed v b f = Enough
@@ -59,8 +63,10 @@ weighBy true false false Dropped b f = On b 1
 weighBy true false false (Opened x n m) b f = On (f x n m) 0
 weighBy true false false MetDead b f = Fatal
 
+-- of clause k on the words
 unfoldable pub weighOf : List ℕ → Best → ℕ → Weighed
 weighOf w b k = weighBy (markOf w k) (stopsAt w b) (passedAt w b k) (metAt w k) b (λ x n m. better b (bestAt w k x n m))
 
+-- and the words left
 unfoldable pub weighed : List ℕ → Best → ℕ → List ℕ
 weighed w b k = cond (markOf w k) (cond (stopsAt w b) w (cond (passedAt w b k) w (visited w k))) w

@@ -1,4 +1,5 @@
-// The walk over the queued clauses of a store of sound shape, in position order. The layers above, which have tested the shape, call `propose`.
+// The walk over the queued clauses of a store of sound shape, in position order. The crate's public call tests the shape
+// and that it is synced, and then calls `propose`.
 ghost use mathlib.Core.Path.{_≡_};
 ghost use Prim.Native.Nat.{_+_, _≤_, _<_};
 ghost use lib.ListN.{length};
@@ -18,6 +19,7 @@ use requirement::candidates;
 use rules::Best;
 use rules::Out;
 use settings::activity;
+use store::codes;
 use store::limits;
 use store::read;
 use store::wide;
@@ -78,8 +80,8 @@ fn is_shielded(s: &[u32], b: Best, k: usize) -> bool
     requires { ⌜ (Sound (now s)) × (k < at clauseCount 0 (now s)) × (b .clause < at clauseCount 0 (now s)) ⌝ }
     ensures { λ r. ⌜ r ≡ shieldedAt (now (s .entry)) b k ⌝ }
 {
-    if read::parent(s, wide(b.clause)) == 0 {
-        return read::parent(s, k) != 0;
+    if read::parent(s, wide(b.clause)) == codes::ROOT {
+        return read::parent(s, k) != codes::ROOT;
     }
     false
 }
@@ -132,7 +134,7 @@ fn stops(s: &[u32], b: Best, highest: u32) -> bool
         return true;
     }
     if read::mode(s) == 1 {
-        return activity::level(b.activity, highest);
+        return activity::same(b.activity, highest);
     }
     false
 }

@@ -12,6 +12,7 @@ use Rattle.requirement.specs.Tables.{firstSlot, listCount, cellsOf}
 use Rattle.rules.specs.Sweep.{touches}
 use Rattle.rules.specs.Sync.{meets}
 use Rattle.rules.specs.Walk.{Literal, CandidateList, flattened, member}
+use Rattle.store.proofs.Choice.{or-assoc}
 use Rattle.store.specs.Area.{at}
 use Rattle.store.specs.Layout.{candidates, disjunctionStarts, disjunctionSizes, literalVariables}
 use Rattle.store.specs.Limits.{cellRoom}
@@ -43,14 +44,10 @@ unfolding anyOf touches
 literals-any W [] = refl
 literals-any W (l ∷ ls) = rw (literals-any W ls)
 
-or-assoc : (a b c : Bool) → (a || b) || c ≡ a || (b || c)
-or-assoc true b c = refl
-or-assoc false b c = refl
-
 meets-both : (W xs ys : List ℕ) → meets W (xs ++ ys) ≡ meets W xs || meets W ys
 unfolding meets
 meets-both W [] ys = refl
-meets-both W (x ∷ xs) ys = rw (meets-both W xs ys) (sym (or-assoc (member x W) (meets W xs) (meets W ys)))
+meets-both W (x ∷ xs) ys = rw (meets-both W xs ys) (or-assoc (member x W) (meets W xs) (meets W ys))
 
 pub lists-any : (W : List ℕ) (cs : List CandidateList) → anyOf (listTouched W) cs ≡ meets W (flattened cs)
 unfolding anyOf flattened meets

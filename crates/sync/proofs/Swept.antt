@@ -7,36 +7,35 @@ use Prim.Native.Nat.{ℕ, _≤_, _<_}
 use native.Mathlib.Omega.{arith}
 use borrow.Author.Tests.{lt-ltb, le-ltb}
 use lib.Dec.{T, ltb, eqb}
-use Rattle.evaluate.specs.Standing.{ofClause, envOf, memoBy, memoOf, markOf, queueOf}
+use Rattle.evaluate.specs.Standing.{ofClause, envOf, cacheBy, cacheOf, markOf, queueOf}
 use Rattle.evaluate.specs.View.{assigned, listsAt}
-use Rattle.rules.proofs.Bools.{or-none, or-true}
 use Rattle.rules.proofs.Sweeps.{routes-swept}
 use Rattle.rules.specs.Sweep.{spoiled}
 use Rattle.rules.specs.Sync.{routes}
 use Rattle.rules.specs.Walk.{CandidateList}
-use Rattle.rules.specs.declared.Memo.{Memo}
-use Rattle.rules.specs.declared.Memo.the-variants.{Dirty, Known}
+use Rattle.rules.specs.declared.Cache.{Cache}
+use Rattle.rules.specs.declared.Cache.the-variants.{Dirty, Known}
 use Rattle.rules.specs.declared.State.the-variants.{Satisfied, Frontier, Dead}
 use Rattle.store.proofs.AreaLaws.{at-past}
-use Rattle.store.proofs.Choice.{lt-or}
+use Rattle.store.proofs.Choice.{lt-or, or-none, or-true}
 use Rattle.store.specs.Area.{Area, at, apart}
 use Rattle.store.specs.Layout.{queued, cacheStates, cacheCandidates, cacheNames, cacheCounts, map, clauseCount, environmentRegion}
 use Rattle.store.specs.Limits.{requirements}
 use Rattle.store.specs.Shape.{Sound}
 use Rattle.sync.proofs.Kept.{few, woken-length, woken-area, spoiled-area, swept-area}
 use Rattle.sync.proofs.Sweeping.{at-sweep}
-use Rattle.sync.proofs.Tests.{none-wakes, memo-kept, spoils-kept}
+use Rattle.sync.proofs.Tests.{none-wakes, cache-kept, spoils-kept}
 use Rattle.sync.specs.Sync.{wakesAt, spoilsBy, spoilsAt, wokenWords, spoiledWords, sweptWords}
 use Rattle.trail.specs.declared.Value.{Value}
 
 -- a cache whose state word becomes 0 is dirty
-memo-zero : (a b c : ℕ) → memoBy 0 a b c ≡ Dirty
-unfolding memoBy
-memo-zero a b c = refl
+cache-zero : (a b c : ℕ) → cacheBy 0 a b c ≡ Dirty
+unfolding cacheBy
+cache-zero a b c = refl
 
-memo-set : (t : Bool) (k a b c : ℕ) → memoBy (cond t 0 k) a b c ≡ cond t Dirty (memoBy k a b c)
-memo-set true k a b c = memo-zero a b c
-memo-set false k a b c = refl
+cache-set : (t : Bool) (k a b c : ℕ) → cacheBy (cond t 0 k) a b c ≡ cond t Dirty (cacheBy k a b c)
+cache-set true k a b c = cache-zero a b c
+cache-set false k a b c = refl
 
 -- THE SWEEP
 module _ (w W : List ℕ) (h : Sound w) where
@@ -66,13 +65,13 @@ module _ (w W : List ℕ) (h : Sound w) where
       outer l = rw (le-ltb k (at clauseCount 0 w) l, none-wakes w W k l)
 
   -- the caches: each is judged as it was before the marks were set
-  memo-first : (key : ℕ) → memoOf (wokenWords w W) key ≡ memoOf w key
+  cache-first : (key : ℕ) → cacheOf (wokenWords w W) key ≡ cacheOf w key
   unfolding at
-  memo-first key =
-      memo-kept (wokenWords w W) w key (rw (woken-area w W h cacheStates tt)) (woken-area w W h cacheCandidates tt) (woken-area w W h cacheNames tt) (woken-area w W h cacheCounts tt)
+  cache-first key =
+      cache-kept (wokenWords w W) w key (rw (woken-area w W h cacheStates tt)) (woken-area w W h cacheCandidates tt) (woken-area w W h cacheNames tt) (woken-area w W h cacheCounts tt)
 
   spoils-first : (key : ℕ) → spoilsAt (wokenWords w W) W key ≡ spoilsAt w W key
-  spoils-first key = spoils-kept (wokenWords w W) w (woken-area w W h environmentRegion tt) (woken-area w W h map tt) W key (memo-first key)
+  spoils-first key = spoils-kept (wokenWords w W) w (woken-area w W h environmentRegion tt) (woken-area w W h map tt) W key (cache-first key)
 
   state-word : (key : ℕ) → key < requirements → at cacheStates key (sweptWords w W) ≡ cond (spoilsAt w W key) 0 (at cacheStates key w)
   unfolding sweptWords spoiledWords at
@@ -80,7 +79,7 @@ module _ (w W : List ℕ) (h : Sound w) where
       at-sweep cacheStates (spoilsAt (wokenWords w W) W) 0 (wokenWords w W) (omega (arith, woken-length w W h, h .long)) key requirements (omega arith) l
       ∙ rw (spoils-first key, woken-area w W h cacheStates tt)
 
-  spoiled-by : (a : ℕ → Value) (cs : List CandidateList) (m : Memo) → cond (spoilsBy a W cs m) Dirty m ≡ spoiled a W cs m
+  spoiled-by : (a : ℕ → Value) (cs : List CandidateList) (m : Cache) → cond (spoilsBy a W cs m) Dirty m ≡ spoiled a W cs m
   spoiled-by a cs Dirty = refl
   spoiled-by a cs (Known (Satisfied x)) = refl
   spoiled-by a cs (Known (Frontier x n m)) = refl
@@ -90,19 +89,19 @@ module _ (w W : List ℕ) (h : Sound w) where
   unfolding sweptWords at
   other b t u i = rw (spoiled-area (wokenWords w W) W b u, woken-area w W h b t)
 
-  memo-is : (key : ℕ) → memoOf (sweptWords w W) key ≡ spoiled (assigned w) W (listsAt w key) (memoOf w key)
-  unfolding memoOf spoilsAt
-  memo-is key =
+  cache-is : (key : ℕ) → cacheOf (sweptWords w W) key ≡ spoiled (assigned w) W (listsAt w key) (cacheOf w key)
+  unfolding cacheOf spoilsAt
+  cache-is key =
       rw (other cacheCandidates tt tt key, other cacheNames tt tt key, other cacheCounts tt tt key) (⊎-elim inner outer (lt-or key requirements))
     where
-      inner : key < requirements → memoBy (at cacheStates key (sweptWords w W)) (at cacheCandidates key w) (at cacheNames key w) (at cacheCounts key w) ≡ spoiled (assigned w) W (listsAt w key) (memoOf w key)
-      inner l = rw (state-word key l) (memo-set (spoilsAt w W key) (at cacheStates key w) (at cacheCandidates key w) (at cacheNames key w) (at cacheCounts key w) ∙ spoiled-by (assigned w) (listsAt w key) (memoOf w key))
+      inner : key < requirements → cacheBy (at cacheStates key (sweptWords w W)) (at cacheCandidates key w) (at cacheNames key w) (at cacheCounts key w) ≡ spoiled (assigned w) W (listsAt w key) (cacheOf w key)
+      inner l = rw (state-word key l) (cache-set (spoilsAt w W key) (at cacheStates key w) (at cacheCandidates key w) (at cacheNames key w) (at cacheCounts key w) ∙ spoiled-by (assigned w) (listsAt w key) (cacheOf w key))
 
-      outer : requirements ≤ key → memoBy (at cacheStates key (sweptWords w W)) (at cacheCandidates key w) (at cacheNames key w) (at cacheCounts key w) ≡ spoiled (assigned w) W (listsAt w key) (memoOf w key)
-      outer l = rw (at-past cacheStates key (sweptWords w W) l, at-past cacheStates key w l, memo-zero (at cacheCandidates key w) (at cacheNames key w) (at cacheCounts key w))
+      outer : requirements ≤ key → cacheBy (at cacheStates key (sweptWords w W)) (at cacheCandidates key w) (at cacheNames key w) (at cacheCounts key w) ≡ spoiled (assigned w) W (listsAt w key) (cacheOf w key)
+      outer l = rw (at-past cacheStates key (sweptWords w W) l, at-past cacheStates key w l, cache-zero (at cacheCandidates key w) (at cacheNames key w) (at cacheCounts key w))
 
   pub sweep-is : queueOf (sweptWords w W) ≡ routes (envOf w) (assigned w) W (queueOf w)
   unfolding wakesAt
   sweep-is =
-      (λ i. record { mark = fun-ext mark-is i; memo = fun-ext memo-is i })
+      (λ i. record { mark = fun-ext mark-is i; cache = fun-ext cache-is i })
       ∙ sym (routes-swept (envOf w) (assigned w) W (queueOf w))

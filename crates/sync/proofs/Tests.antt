@@ -5,17 +5,19 @@ use mathlib.Core.List.{List}
 use mathlib.Core.Logic.{_≢_, ⊎-elim}
 use mathlib.Core.Path.{_≡_, refl, sym, ap, _∙_, fun-ext}
 use Prim.Native.Nat.{ℕ, _≤_, _<_}
+use native.Mathlib.Omega.{arith}
 use borrow.Author.Tests.{eq-eqb, ne-eqb, lt-ltb, le-ltb}
 use Rattle.evaluate.proofs.Frames.{lists-same, env-same, assigned-same}
-use Rattle.evaluate.specs.Standing.{ofClause, envOf, memoBy, memoOf, markOf, queueOf}
+use Rattle.evaluate.specs.Standing.{ofClause, envOf, cacheBy, cacheOf, markOf, queueOf}
 use Rattle.evaluate.specs.View.{assigned, listsAt, literalsAt}
 use Rattle.rules.proofs.Sweeps.{meets-same, touches-same, broken-same}
 use Rattle.rules.specs.Sweep.{touches, woken}
 use Rattle.rules.specs.Sync.{meets}
 use Rattle.rules.specs.Walk.{Environment, CandidateList, flattened, isTrue, member}
-use Rattle.rules.specs.declared.Memo.{Memo}
-use Rattle.rules.specs.declared.Memo.the-variants.{Dirty, Known}
+use Rattle.rules.specs.declared.Cache.{Cache}
+use Rattle.rules.specs.declared.Cache.the-variants.{Dirty, Known}
 use Rattle.rules.specs.declared.State.the-variants.{Satisfied, Frontier, Dead}
+use Rattle.evaluate.proofs.Records.{clause-word, cache-dirty, cache-satisfied, cache-frontier}
 use Rattle.store.proofs.Choice.{eq-or}
 use Rattle.store.specs.Area.{Area, area, at}
 use Rattle.store.proofs.AreaLaws.{area-same}
@@ -25,54 +27,44 @@ use Rattle.trail.specs.declared.Value.{Value}
 
 -- what a cache's state word says
 module _ (w : List ℕ) (key state : ℕ) (is : state ≡ at cacheStates key w) where
-  memo-dirty : state ≡ 0 → memoOf w key ≡ Dirty
-  unfolding memoOf memoBy
-  memo-dirty h = rw (← is, eq-eqb state 0 h)
+  -- the other two are read with the candidate beside it
+  known : state ≡ 1 → cacheOf w key ≡ Known (Satisfied (at cacheCandidates key w))
+  known h = sym (cache-satisfied w key state is _ refl (λ e. omega arith) h)
 
-  memo-satisfied : state ≡ 1 → memoOf w key ≡ Known (Satisfied (at cacheCandidates key w))
-  unfolding memoOf memoBy
-  memo-satisfied h = rw (← is, h)
-
-  memo-open : state ≢ 0 → state ≢ 1 → memoOf w key ≡ Known (Frontier (at cacheCandidates key w) (at cacheNames key w) (at cacheCounts key w))
-  unfolding memoOf memoBy
-  memo-open h k = rw (← is, ne-eqb state 0 h, ne-eqb state 1 k)
+  unmet : state ≢ 0 → state ≢ 1 → cacheOf w key ≡ Known (Frontier (at cacheCandidates key w) (at cacheNames key w) (at cacheCounts key w))
+  unmet h k = sym (cache-frontier w key state is _ refl h _ _ k refl refl)
 
   module _ (W : List ℕ) where
     -- whether it is broken
     module _ (x : ℕ) (by : x ≡ at cacheCandidates key w) (h : state ≡ 1) where
       pub still-stands : isTrue (assigned w x) ≡ true → false ≡ brokenAt w W key
       unfolding brokenAt
-      still-stands t = rw (memo-satisfied h, ← by, t)
+      still-stands t = rw (known h, ← by, t)
 
       pub broken-is : isTrue (assigned w x) ≡ false → meets W (flattened (listsAt w key)) ≡ brokenAt w W key
       unfolding brokenAt
-      broken-is t = rw (memo-satisfied h, ← by, t)
+      broken-is t = rw (known h, ← by, t)
 
     pub none-broken : state ≢ 1 → false ≡ brokenAt w W key
     unfolding brokenAt
     none-broken h =
         ⊎-elim
-        (λ (e : state ≡ 0). rw (memo-dirty e))
-        (λ (e : state ≡ 0 → ⊥). rw (memo-open e h))
+        (λ (e : state ≡ 0). rw (← cache-dirty w key state is e))
+        (λ (e : state ≡ 0 → ⊥). rw (unmet e h))
         (eq-or state 0)
 
     -- whether it becomes dirty
     pub dirty-stays : state ≡ 0 → false ≡ spoilsAt w W key
     unfolding spoilsAt
-    dirty-stays h = rw (memo-dirty h)
+    dirty-stays h = rw (← cache-dirty w key state is h)
 
     pub broken-spoils : state ≡ 1 → brokenAt w W key ≡ spoilsAt w W key
     unfolding spoilsAt brokenAt
-    broken-spoils h = rw (memo-satisfied h)
+    broken-spoils h = rw (known h)
 
     pub frontier-spoils : state ≢ 0 → state ≢ 1 → meets W (flattened (listsAt w key)) ≡ spoilsAt w W key
     unfolding spoilsAt
-    frontier-spoils h k = rw (memo-open h k)
-
--- a clause that there is
-of-clause : (a : Area) (w : List ℕ) (k : ℕ) → k < at clauseCount 0 w → ofClause a w k ≡ at a k w
-unfolding ofClause
-of-clause a w k h = rw (lt-ltb k (at clauseCount 0 w) h)
+    frontier-spoils h k = rw (unmet h k)
 
 module _ (w W : List ℕ) (k : ℕ) where
   pub none-wakes : at clauseCount 0 w ≤ k → wakesAt w W k ≡ false
@@ -85,7 +77,7 @@ module _ (w W : List ℕ) (k : ℕ) where
 
     wakes-is : wakesAt w W k ≡ isTrue (assigned w parent) && (member parent W || rest)
     unfolding wakesAt brokenAt
-    wakes-is = rw (lt-ltb k (at clauseCount 0 w) h, of-clause clauseParents w k h, of-clause clauseConditions w k h, of-clause clauseRequirements w k h, p)
+    wakes-is = rw (lt-ltb k (at clauseCount 0 w) h, clause-word clauseParents w k h, clause-word clauseConditions w k h, clause-word clauseRequirements w k h, p)
 
     pub sleeps : isTrue (assigned w parent) ≡ false → false ≡ wakesAt w W k
     sleeps t = sym (wakes-is ∙ rw t)
@@ -102,23 +94,23 @@ module _ (w W : List ℕ) (k : ℕ) where
         wakes-by-cache u key q = sym (wakes-is ∙ rw (t, m, ← c, u, q))
 
 -- IN OTHER WORDS that have the same clauses, tables, assignment and cache
-pub memo-kept : (s w : List ℕ) (key : ℕ) → at cacheStates key s ≡ at cacheStates key w → area cacheCandidates s ≡ area cacheCandidates w → area cacheNames s ≡ area cacheNames w → area cacheCounts s ≡ area cacheCounts w → memoOf s key ≡ memoOf w key
-unfolding memoOf at
-memo-kept s w key a b c d = rw (a, b, c, d)
+pub cache-kept : (s w : List ℕ) (key : ℕ) → at cacheStates key s ≡ at cacheStates key w → area cacheCandidates s ≡ area cacheCandidates w → area cacheNames s ≡ area cacheNames w → area cacheCounts s ≡ area cacheCounts w → cacheOf s key ≡ cacheOf w key
+unfolding cacheOf at
+cache-kept s w key a b c d = rw (a, b, c, d)
 
 module _ (s w : List ℕ) (e : area environmentRegion s ≡ area environmentRegion w) (m : area map s ≡ area map w) (W : List ℕ) where
-  pub wakes-kept : ((key : ℕ) → memoOf s key ≡ memoOf w key) → (k : ℕ) → wakesAt s W k ≡ wakesAt w W k
+  pub wakes-kept : ((key : ℕ) → cacheOf s key ≡ cacheOf w key) → (k : ℕ) → wakesAt s W k ≡ wakesAt w W k
   unfolding wakesAt
   wakes-kept q k =
       ap (λ (f : Environment). woken f (assigned s) W (queueOf s) k) (env-same s w e)
       ∙ ap (λ (a : ℕ → Value). woken (envOf w) a W (queueOf s) k) (assigned-same s w m)
-      ∙ ap (λ (f : ℕ → Memo). woken (envOf w) (assigned w) W (record { mark = markOf w; memo = f }) k) (fun-ext q)
+      ∙ ap (λ (f : ℕ → Cache). woken (envOf w) (assigned w) W (record { mark = markOf w; cache = f }) k) (fun-ext q)
 
-  pub spoils-kept : (key : ℕ) → memoOf s key ≡ memoOf w key → spoilsAt s W key ≡ spoilsAt w W key
+  pub spoils-kept : (key : ℕ) → cacheOf s key ≡ cacheOf w key → spoilsAt s W key ≡ spoilsAt w W key
   unfolding spoilsAt
   spoils-kept key q =
-      ap (λ (a : ℕ → Value). spoilsBy a W (listsAt s key) (memoOf s key)) (assigned-same s w m)
-      ∙ ap (λ (cs : List CandidateList). spoilsBy (assigned w) W cs (memoOf s key)) (lists-same s w (area-same tablesRegion environmentRegion s w tt e) key)
+      ap (λ (a : ℕ → Value). spoilsBy a W (listsAt s key) (cacheOf s key)) (assigned-same s w m)
+      ∙ ap (λ (cs : List CandidateList). spoilsBy (assigned w) W cs (cacheOf s key)) (lists-same s w (area-same tablesRegion environmentRegion s w tt e) key)
       ∙ ap (spoilsBy (assigned w) W (listsAt w key)) q
 
 -- FOR OTHER LISTS of the same variables
@@ -129,17 +121,17 @@ module _ (W U : List ℕ) (same : (v : ℕ) → member v W ≡ member v U) (w : 
       rw (
         same (ofClause clauseParents w k),
         touches-same W U same (literalsAt w (ofClause clauseConditions w k)),
-        broken-same W U same (assigned w) (listsAt w (ofClause clauseRequirements w k)) (memoOf w (ofClause clauseRequirements w k)),
+        broken-same W U same (assigned w) (listsAt w (ofClause clauseRequirements w k)) (cacheOf w (ofClause clauseRequirements w k)),
       )
 
   pub spoils-alike : (key : ℕ) → spoilsAt w W key ≡ spoilsAt w U key
   unfolding spoilsAt
-  spoils-alike key = go (memoOf w key)
+  spoils-alike key = go (cacheOf w key)
     where
       here : meets W (flattened (listsAt w key)) ≡ meets U (flattened (listsAt w key))
       here = meets-same W U same (flattened (listsAt w key))
 
-      go : (m : Memo) → spoilsBy (assigned w) W (listsAt w key) m ≡ spoilsBy (assigned w) U (listsAt w key) m
+      go : (m : Cache) → spoilsBy (assigned w) W (listsAt w key) m ≡ spoilsBy (assigned w) U (listsAt w key) m
       go Dirty = refl
       go (Known (Satisfied x)) = rw here
       go (Known (Frontier x n c)) = here

@@ -6,42 +6,26 @@ use Prim.Native.Nat.{ℕ, _+_, _-_, _≤_, _<_}
 use native.Mathlib.Omega.{arith}
 use lib.Dec.{T}
 use lib.ListN.{length}
-use Rattle.evaluate.specs.Standing.{memoOf}
+use Rattle.evaluate.specs.Standing.{cacheOf}
 use Rattle.rules.specs.Walk.{member}
 use Rattle.store.proofs.AreaLaws.{length-put, area-kept}
-use Rattle.store.proofs.Choice.{both}
 use Rattle.store.specs.Area.{Area, area, at, put, putRun, apart}
 use Rattle.store.specs.Layout.{queued, cacheStates, cacheCandidates, cacheNames, cacheCounts, mirror, mirrorLength, syncFloor, trailLength, trailVariables, map, clauseCount, clauseParents, clauseRequirements, clauseConditions, environmentRegion}
 use Rattle.store.specs.Limits.{variables, requirements, disjunctions, trailRoom, lastVariable, lastRequirement}
 use Rattle.store.specs.Shape.{every, upTo, Sound}
-use Rattle.evaluate.proofs.Froms.{upto-next, upto-done, every-from}
+use Rattle.evaluate.proofs.Froms.{upto-next, upto-done, every-from, every-both}
 use Rattle.sync.proofs.Kept.{few, woken-sound, spoiled-sound, new-in-range}
 use Rattle.sync.proofs.Sweeping.{length-sweep, area-sweep, sound-sweep, at-sweep-else, sweep-set, sweep-skip, sweep-same}
-use Rattle.sync.proofs.Tests.{memo-kept, wakes-kept, spoils-kept, wakes-alike, spoils-alike}
+use Rattle.sync.proofs.Tests.{cache-kept, wakes-kept, spoils-kept, wakes-alike, spoils-alike}
 use Rattle.sync.proofs.Touched.{entered-both, table-tells}
 use Rattle.sync.specs.Sweep.{sweep}
 use Rattle.sync.specs.Sync.{wordsFrom, oldEntries, newEntries, touchedIn, wakesAt, spoilsAt, wokenWords, spoiledWords, sweptWords, copiedWords, mirroredWords, syncInStore}
-use Rattle.sync.specs.Table.{inTable, OfVariables, entered, tableOf}
+use Rattle.sync.specs.Table.{inTable, entriesOf, entered, tableOf}
 
--- what is read is in range
-module _ (w : List ℕ) (i x : ℕ) (h : Sound w) where
-  pub parent-variable : x ≡ at clauseParents i w → x < variables
-  parent-variable e = let m = h .ranges clauseParents lastVariable tt i in omega arith
-
-  pub cached-variable : x ≡ at cacheCandidates i w → x < variables
-  cached-variable e = let m = h .ranges cacheCandidates lastVariable tt i in omega arith
-
-  pub condition-range : x ≡ at clauseConditions i w → x ≤ disjunctions
-  condition-range e = let m = h .ranges clauseConditions disjunctions tt i in omega arith
-
-  pub requirement-range : x ≡ at clauseRequirements i w → x < requirements
-  requirement-range e = let m = h .ranges clauseRequirements lastRequirement tt i in omega arith
-
-pub mirror-variables : (w : List ℕ) → Sound w → OfVariables mirror w
-mirror-variables w h k = let m = h .ranges mirror lastVariable tt k in omega arith
-
-pub trail-variables : (w : List ℕ) → Sound w → OfVariables trailVariables w
-trail-variables w h k = let m = h .ranges trailVariables lastVariable tt k in omega arith
+-- an entry is of a variable, and lies in its area
+pub entry-variable : (w : List ℕ) → Sound w → (old : Bool) (i : ℕ) → at (entriesOf old) i w < variables
+entry-variable w h true i = let m = h .ranges mirror lastVariable tt i in omega arith
+entry-variable w h false i = let m = h .ranges trailVariables lastVariable tt i in omega arith
 
 -- the marks: so far the first k were swept
 module _ (w W s : List ℕ) (n k : ℕ) (h : Sound w) (q : n ≡ at clauseCount 0 w) (l : k ≤ n) (so : s ≡ sweep queued (wakesAt w W) 1 w k) where
@@ -61,12 +45,12 @@ module _ (w W s : List ℕ) (n k : ℕ) (h : Sound w) (q : n ≡ at clauseCount 
   unfolding at
   waking-count = rw (waking-area clauseCount tt) (sym q)
 
-  waking-memo : (key : ℕ) → memoOf s key ≡ memoOf w key
+  waking-cache : (key : ℕ) → cacheOf s key ≡ cacheOf w key
   unfolding at
-  waking-memo key = memo-kept s w key (rw (waking-area cacheStates tt)) (waking-area cacheCandidates tt) (waking-area cacheNames tt) (waking-area cacheCounts tt)
+  waking-cache key = cache-kept s w key (rw (waking-area cacheStates tt)) (waking-area cacheCandidates tt) (waking-area cacheNames tt) (waking-area cacheCounts tt)
 
   waking-test : wakesAt w W k ≡ wakesAt s W k
-  waking-test = sym (wakes-kept s w (waking-area environmentRegion tt) (waking-area map tt) W waking-memo k)
+  waking-test = sym (wakes-kept s w (waking-area environmentRegion tt) (waking-area map tt) W waking-cache k)
 
   pub waking-set : (r : List ℕ) → r ≡ put queued k 1 s → wakesAt s W k ≡ true → r ≡ sweep queued (wakesAt w W) 1 w (k + 1)
   waking-set r e t = e ∙ sweep-set queued (wakesAt w W) 1 w s k so (waking-test ∙ t)
@@ -91,14 +75,14 @@ module _ (w W s : List ℕ) (key : ℕ) (h : Sound w) (l : key ≤ requirements)
   spoiling-area : (b : Area) → T (apart b cacheStates) → area b s ≡ area b w
   spoiling-area b t = ap (area b) so ∙ area-sweep cacheStates (spoilsAt w W) 0 w b t key l
 
-  spoiling-memo : memoOf s key ≡ memoOf w key
-  spoiling-memo =
-      memo-kept s w key
+  spoiling-cache : cacheOf s key ≡ cacheOf w key
+  spoiling-cache =
+      cache-kept s w key
       (ap (at cacheStates key) so ∙ at-sweep-else cacheStates (spoilsAt w W) 0 w key key l (omega arith))
       (spoiling-area cacheCandidates tt) (spoiling-area cacheNames tt) (spoiling-area cacheCounts tt)
 
   spoiling-test : spoilsAt w W key ≡ spoilsAt s W key
-  spoiling-test = sym (spoils-kept s w (spoiling-area environmentRegion tt) (spoiling-area map tt) W key spoiling-memo)
+  spoiling-test = sym (spoils-kept s w (spoiling-area environmentRegion tt) (spoiling-area map tt) W key spoiling-cache)
 
   pub spoiling-set : (r : List ℕ) → r ≡ put cacheStates key 0 s → spoilsAt s W key ≡ true → r ≡ sweep cacheStates (spoilsAt w W) 0 w (key + 1)
   spoiling-set r e t = e ∙ sweep-set cacheStates (spoilsAt w W) 0 w s key so (spoiling-test ∙ t)
@@ -145,13 +129,6 @@ both-entered w t r u floor old n p q o e f =
     ∙ sym (entered-both t (wordsFrom mirror w floor (old - floor)) (wordsFrom trailVariables w floor (n - floor))))
 
 -- the touched variables are variables
-every-both : (p : ℕ → Bool) (xs ys : List ℕ) → every p xs ≡ true → every p ys ≡ true → every p (xs ++ ys) ≡ true
-unfolding every
-every-both p [] ys e f = f
-every-both p (x ∷ xs) ys e f =
-    let b = both (p x) (every p xs) e in
-    rw (b .0) (every-both p xs ys (b .1) f)
-
 touched-in-range : (w : List ℕ) → Sound w → every (upTo lastVariable) (touchedIn w) ≡ true
 unfolding touchedIn oldEntries wordsFrom
 touched-in-range w h =

@@ -2,15 +2,16 @@
 use mathlib.Core.Bool.{Bool, false, not, cond, _&&_}
 use mathlib.Core.List.{List, [], _∷_, _++_}
 use Prim.Native.Nat.{ℕ, _+_, _-_}
-use Rattle.evaluate.specs.Standing.{envOf, memoOf, queueOf}
+use Rattle.evaluate.specs.Standing.{envOf, cacheOf, queueOf}
 use Rattle.evaluate.specs.View.{assigned, from, listsAt}
 use Rattle.rules.specs.Sweep.{broken, woken}
 use Rattle.rules.specs.Sync.{meets}
 use Rattle.rules.specs.Walk.{CandidateList, flattened, isTrue}
-use Rattle.rules.specs.declared.Memo.{Memo}
-use Rattle.rules.specs.declared.Memo.the-variants.{Dirty, Known}
+use Rattle.rules.specs.declared.Cache.{Cache}
+use Rattle.rules.specs.declared.Cache.the-variants.{Dirty, Known}
 use Rattle.rules.specs.declared.State.the-variants.{Satisfied, Frontier, Dead}
 use Rattle.store.specs.Area.{Area, at, put, putRun}
+use Rattle.store.specs.Codes.{dirty}
 use Rattle.store.specs.Layout.{queued, cacheStates, mirror, mirrorLength, syncFloor, trailLength, trailVariables, clauseCount}
 use Rattle.store.specs.Limits.{requirements}
 use Rattle.store.specs.Shape.{soundShape}
@@ -41,21 +42,22 @@ touchesIn w = (at mirrorLength 0 w - at syncFloor 0 w) + (at trailLength 0 w - a
 
 -- the cache said "satisfied by x", x is not true and a candidate is touched
 unfoldable pub brokenAt : List ℕ → List ℕ → ℕ → Bool
-brokenAt w W key = broken (assigned w) W (listsAt w key) (memoOf w key)
+brokenAt w W key = broken (assigned w) W (listsAt w key) (cacheOf w key)
 
 -- a clause wakes: its parent is true, and its parent or a variable of its condition is touched, or its cache is broken
 unfoldable pub wakesAt : List ℕ → List ℕ → ℕ → Bool
 wakesAt w W k = woken (envOf w) (assigned w) W (queueOf w) k
 
 -- a cache becomes dirty: a candidate is touched, and it does not say "satisfied by x" with x true
-abbrev pub spoilsBy : (ℕ → Value) → List ℕ → List CandidateList → Memo → Bool
+abbrev pub spoilsBy : (ℕ → Value) → List ℕ → List CandidateList → Cache → Bool
 spoilsBy a W cs Dirty = false
 spoilsBy a W cs (Known (Satisfied x)) = not (isTrue (a x)) && meets W (flattened cs)
 spoilsBy a W cs (Known (Frontier x n m)) = meets W (flattened cs)
 spoilsBy a W cs (Known Dead) = meets W (flattened cs)
 
+-- of the cache of a requirement, on the words
 unfoldable pub spoilsAt : List ℕ → List ℕ → ℕ → Bool
-spoilsAt w W key = spoilsBy (assigned w) W (listsAt w key) (memoOf w key)
+spoilsAt w W key = spoilsBy (assigned w) W (listsAt w key) (cacheOf w key)
 
 -- the marks of the clauses that wake are set
 unfoldable pub wokenWords : List ℕ → List ℕ → List ℕ
@@ -63,7 +65,7 @@ wokenWords w W = sweep queued (wakesAt w W) 1 w (at clauseCount 0 w)
 
 -- the caches that become dirty are made so
 unfoldable pub spoiledWords : List ℕ → List ℕ → List ℕ
-spoiledWords w W = sweep cacheStates (spoilsAt w W) 0 w requirements
+spoiledWords w W = sweep cacheStates (spoilsAt w W) dirty w requirements
 
 -- the one sweep: marks first, for a cache that is broken wakes its clauses
 unfoldable pub sweptWords : List ℕ → List ℕ → List ℕ
@@ -85,6 +87,7 @@ syncInStore w = mirroredWords (sweptWords w (touchedIn w))
 unfoldable pub syncOut : List ℕ → Synced
 syncOut w = cond (soundShape w) (Touches (touchesIn w)) (Refused 1)
 
+-- the words left, on any words
 unfoldable pub syncStore : List ℕ → List ℕ
 syncStore w = cond (soundShape w) (syncInStore w) w
 
@@ -93,6 +96,7 @@ abbrev pub syncedNumber : Synced → ℕ
 syncedNumber (Touches n) = 0
 syncedNumber (Refused n) = n
 
+-- the touches
 abbrev pub syncedValues : Synced → List ℕ
 syncedValues (Touches n) = n ∷ []
 syncedValues (Refused n) = []

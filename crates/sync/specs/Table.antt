@@ -1,9 +1,10 @@
 -- A table of variables: place v is true where v is entered.
 use mathlib.Core.Bool.{Bool, true, false, cond}
 use mathlib.Core.List.{List, [], _∷_}
-use Prim.Native.Nat.{ℕ, zero, suc, _<_}
+use Prim.Native.Nat.{ℕ, zero, suc}
 use lib.ListN.{getD, set, replicate}
-use Rattle.store.specs.Area.{Area, at}
+use Rattle.store.specs.Area.{Area}
+use Rattle.store.specs.Layout.{mirror, trailVariables}
 use Rattle.store.specs.Limits.{variables}
 
 -- the variables below n that a table has
@@ -15,9 +16,10 @@ foundIn t (suc n) = cond (getD t n false) (n ∷ foundIn t n) (foundIn t n)
 abbrev pub inTable : List Bool → List ℕ
 inTable t = foundIn t variables
 
--- every word of an area is a variable
-abbrev pub OfVariables : Area → List ℕ → Type 0
-OfVariables a w = (k : ℕ) → at a k w < variables
+-- the entries as the last sync saw them, or as they are
+abbrev pub entriesOf : Bool → Area
+entriesOf true = mirror
+entriesOf false = trailVariables
 
 -- a table once variables were entered, one after the other
 unfoldable pub entered : List Bool → List ℕ → List Bool

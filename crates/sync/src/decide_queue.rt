@@ -1,4 +1,4 @@
-// Sync on a store of sound shape. The layers above, which have tested the shape, call it.
+// Sync on a store of sound shape. The crate's public call tests the shape and then calls it.
 ghost use mathlib.Core.Path.{_≡_};
 ghost use Prim.Native.Nat.{_<_};
 ghost use Rattle.store.specs.Area.{at};
@@ -13,6 +13,7 @@ use crate::occurrences;
 use crate::table;
 use crate::table::PLACES;
 use evaluate::assignment;
+use store::codes;
 use store::limits;
 use store::read;
 use store::wide;
@@ -23,7 +24,7 @@ fn breaks(s: &[u32], t: &[bool; PLACES], key: usize) -> bool
     requires { ⌜ (Sound (now s)) × (key < requirements) ⌝ }
     ensures { λ r. ⌜ r ≡ brokenAt (now (s .entry)) (inTable (now (t .entry))) key ⌝ }
 {
-    if read::cache_state(s, key) == 1 {
+    if read::cache_state(s, key) == codes::SATISFIED {
         if assignment::is_true(s, read::cache_candidate(s, key)) {
             return false;
         }
@@ -71,10 +72,10 @@ fn spoils(s: &[u32], t: &[bool; PLACES], key: usize) -> bool
     ensures { λ r. ⌜ r ≡ spoilsAt (now (s .entry)) (inTable (now (t .entry))) key ⌝ }
 {
     let state = read::cache_state(s, key);
-    if state == 0 {
+    if state == codes::DIRTY {
         return false;
     }
-    if state == 1 {
+    if state == codes::SATISFIED {
         return breaks(s, t, key);
     }
     occurrences::in_requirement(s, t, key)
@@ -88,7 +89,7 @@ fn spoil_caches(s: &mut [u32], t: &[bool; PLACES])
     let mut key: usize = 0;
     while key < limits::REQUIREMENTS {
         if spoils(s, t, key) {
-            write::cache_state(s, key, 0);
+            write::cache_state(s, key, codes::DIRTY);
         }
         key += 1;
     }

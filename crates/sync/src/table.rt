@@ -1,17 +1,15 @@
 // The table of touched variables: place v is true where v is touched.
 ghost use mathlib.Core.Path.{_≡_};
-ghost use Prim.Native.Nat.{_+_, _-_, _≤_, _<_};
-ghost use lib.ListN.{length};
-ghost use Rattle.store.specs.Limits.{variables};
+ghost use Prim.Native.Nat.{_-_, _≤_, _<_};
+ghost use Rattle.store.specs.Area.{at};
+ghost use Rattle.store.specs.Limits.{variables, trailRoom};
 ghost use Rattle.store.specs.Shape.{Sound};
 ghost use Rattle.rules.specs.Walk.{member};
 ghost use Rattle.sync.specs.Sync.{wordsFrom, touchedIn};
-ghost use Rattle.sync.specs.Table.{inTable, OfVariables, entered};
-use store::areas;
+ghost use Rattle.sync.specs.Table.{inTable, entriesOf, entered};
 use store::limits;
 use store::read;
 use store::wide;
-use store::word;
 
 // A place for each variable.
 pub const PLACES: usize = limits::VARIABLES;
@@ -24,15 +22,25 @@ pub fn is_touched(t: &[bool; PLACES], v: u32) -> bool
     t[wide(v)]
 }
 
-// Enters the words `from`, .., `to` - 1 of the area of n words that begins at `base`.
-fn enter(s: &[u32], t: &mut [bool; PLACES], base: usize, n: usize, from: usize, to: usize)
-    requires { ⌜ (base + n ≤ length (now s)) × (to ≤ n) ⌝ }
-    requires { ⌜ OfVariables (record { base = base; size = n }) (now s) ⌝ }
-    ensures { λ _. ⌜ now (t .exit) ≡ entered (now (t .entry)) (wordsFrom (record { base = base; size = n }) (now (s .entry)) from (to - from)) ⌝ }
+// Entry i as the last sync saw it, or as it is.
+fn entry(s: &[u32], old: bool, i: usize) -> u32
+    requires { ⌜ (Sound (now s)) × (i < trailRoom) ⌝ }
+    ensures { λ r. ⌜ r ≡ at (entriesOf old) i (now (s .entry)) ⌝ }
+{
+    if old {
+        return read::mirrored(s, i);
+    }
+    read::trail_variable(s, i)
+}
+
+// Enters the entries `from`, .., `to` - 1.
+fn enter(s: &[u32], t: &mut [bool; PLACES], old: bool, from: usize, to: usize)
+    requires { ⌜ (Sound (now s)) × (to ≤ trailRoom) ⌝ }
+    ensures { λ _. ⌜ now (t .exit) ≡ entered (now (t .entry)) (wordsFrom (entriesOf old) (now (s .entry)) from (to - from)) ⌝ }
 {
     let mut i = from;
     while i < to {
-        t[wide(word(s, base, n, i))] = true;
+        t[wide(entry(s, old, i))] = true;
         i += 1;
     }
 }
@@ -43,15 +51,6 @@ pub fn enter_touched(s: &[u32], t: &mut [bool; PLACES])
     ensures { λ _. ⌜ now (t .exit) ≡ entered (now (t .entry)) (touchedIn (now (s .entry))) ⌝ }
 {
     let floor = wide(read::sync_floor(s));
-    let old = wide(read::mirror_length(s));
-    enter(s, t, areas::MIRROR, areas::MIRROR_SIZE, floor, old);
-    let len = wide(read::trail_length(s));
-    enter(
-        s,
-        t,
-        areas::TRAIL_VARIABLES,
-        areas::TRAIL_VARIABLES_SIZE,
-        floor,
-        len,
-    );
+    enter(s, t, true, floor, wide(read::mirror_length(s)));
+    enter(s, t, false, floor, wide(read::trail_length(s)));
 }

@@ -1,7 +1,7 @@
 use mathlib.Core.Path.{sym, _∙_}
 use borrow.Author.Needs.{needs}
-use Rattle.examine.proofs.Clauses.{clause-inside, requirement-below}
-use Rattle.examine.proofs.Memos.{inspect-dirty, inspect-known, inspect-shut}
+use Rattle.evaluate.proofs.Records.{clause-inside, requirement-below}
+use Rattle.examine.proofs.Visits.{inspect-dirty, inspect-known, inspect-shut}
 use Rattle.examine.proofs.inspection.inspect.Statement.{statement}
 use Rattle.examine.proofs.inspection.inspect.Tie as tie
 
@@ -17,8 +17,8 @@ wide-requires c κs = search needs
 recall-requires : tie.Need-recall-requires
 recall-requires c κs = (c .before .before .before .before .before .before .before .before .pre .0 .long, requirement-below _ (c .before .before .before .before .before .before .before .before .pre .0) _ _ (c .before .wide .ensures ∙ c .before .before .requirement .ensures))
 
-enum-known-memo : tie.Need-enum-known-memo
-enum-known-memo c = search needs
+enum-known-cache : tie.Need-enum-known-cache
+enum-known-cache c = search needs
 
 seen-as-requires : tie.Need-seen-as-requires
 seen-as-requires c κs = search needs
@@ -39,7 +39,7 @@ same-length : tie.Need-same-length
 same-length c = search needs
 
 returns : tie.Need-returns
-returns c = inspect-known _ _ (c .before .before .before .before .before .before .before .before .before .before .before .before .before .pre .1) _ (c .before .before .before .before .before .before .wide .ensures ∙ c .before .before .before .before .before .before .before .requirement .ensures) (sym (c .before .before .before .before .before .before .before .before .before .before .is-active .ensures) ∙ c .before .before .before .before .before .before .before .before .before .if1 .taken) _ _ (c .seen-as .ensures) (sym (c .before .before .before .before .recall .ensures) ∙ c .before .before .memo .given .1)
+returns c = inspect-known _ _ (c .before .before .before .before .before .before .before .before .before .before .before .before .before .pre .1) _ (c .before .before .before .before .before .before .wide .ensures ∙ c .before .before .before .before .before .before .before .requirement .ensures) (sym (c .before .before .before .before .before .before .before .before .before .before .is-active .ensures) ∙ c .before .before .before .before .before .before .before .before .before .if1 .taken) _ _ (c .seen-as .ensures) (sym (c .before .before .before .before .recall .ensures) ∙ c .before .before .cache .given .1)
 
 same-length-2 : tie.Need-same-length-2
 same-length-2 c = search needs
@@ -61,7 +61,7 @@ inspect-spec =
     requirement-requires
     wide-requires
     recall-requires
-    enum-known-memo
+    enum-known-cache
     seen-as-requires
     enum-told
     eval-at-requires

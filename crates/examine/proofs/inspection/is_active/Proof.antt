@@ -1,5 +1,6 @@
 use mathlib.Core.Path.{sym, _∙_}
-use Rattle.examine.proofs.Clauses.{active-by, active-idle, clause-inside, condition-most, parent-variable}
+use Rattle.evaluate.proofs.Records.{clause-inside, condition-most, parent-variable}
+use Rattle.examine.proofs.Clauses.{active-by, active-idle}
 use Rattle.examine.proofs.inspection.is_active.Statement.{statement}
 use Rattle.examine.proofs.inspection.is_active.Tie as tie
 

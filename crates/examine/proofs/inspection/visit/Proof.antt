@@ -1,7 +1,7 @@
 use mathlib.Core.Path.{ap, sym, _∙_}
 use borrow.Author.Needs.{needs}
-use Rattle.examine.proofs.Clauses.{clause-inside}
-use Rattle.examine.proofs.Memos.{visit-gone, visit-open, visit-shut, visit-unqueued}
+use Rattle.evaluate.proofs.Records.{clause-inside}
+use Rattle.examine.proofs.Visits.{visit-gone, visit-open, visit-shut, visit-unqueued}
 use Rattle.store.specs.Area.{put}
 use Rattle.store.specs.Layout.{queued}
 use Rattle.examine.proofs.inspection.visit.Statement.{statement}

@@ -1,6 +1,6 @@
 use native.Mathlib.Omega.{arith}
 use borrow.Author.Needs.{needs}
-use Rattle.examine.proofs.Clauses.{clause-inside}
+use Rattle.evaluate.proofs.Records.{clause-inside}
 use Rattle.proposal.proofs.Steps.{shielded-by, shielded-not}
 use Rattle.proposal.proofs.decide_queue.is_shielded.Statement.{statement}
 use Rattle.proposal.proofs.decide_queue.is_shielded.Tie as tie

@@ -1,6 +1,6 @@
 use native.Mathlib.Omega.{arith}
 use borrow.Author.Needs.{needs}
-use Rattle.examine.proofs.Clauses.{clause-inside}
+use Rattle.evaluate.proofs.Records.{clause-inside}
 use Rattle.proposal.proofs.Loops.{told-choose, told-dead, told-nothing}
 use Rattle.settings.proofs.FloatOrder.{no-nan-bits}
 use Rattle.proposal.proofs.decide_queue.propose.Statement.{statement}

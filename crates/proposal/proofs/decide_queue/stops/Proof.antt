@@ -10,11 +10,11 @@ returns c = stop-one _ _ (c .if1 .taken)
 mode-requires : tie.Need-mode-requires
 mode-requires c κs = search needs
 
-level-requires : tie.Need-level-requires
-level-requires c κs = (c .before .before .before .before .before .pre .1, top-good _ (c .before .before .before .before .before .pre .0) _ (is-standard _ _ (c .before .mode .ensures) (c .if2 .taken)) (c .before .before .before .before .before .pre .2))
+same-requires : tie.Need-same-requires
+same-requires c κs = (c .before .before .before .before .before .pre .1, top-good _ (c .before .before .before .before .before .pre .0) _ (is-standard _ _ (c .before .mode .ensures) (c .if2 .taken)) (c .before .before .before .before .before .pre .2))
 
 returns-2 : tie.Need-returns-2
-returns-2 c = c .level .ensures .1 ∙ stop-top _ _ _ (c .before .before .before .if1 .left) (is-standard _ _ (c .before .before .mode .ensures) (c .before .if2 .taken)) (c .before .before .before .before .before .before .pre .2)
+returns-2 c = c .same .ensures .1 ∙ stop-top _ _ _ (c .before .before .before .if1 .left) (is-standard _ _ (c .before .before .mode .ensures) (c .before .if2 .taken)) (c .before .before .before .before .before .before .pre .2)
 
 returns-3 : tie.Need-returns-3
 returns-3 c = stop-not _ _ (c .before .before .if1 .left) (not-standard _ _ (c .before .mode .ensures) (c .if2 .left))
@@ -25,6 +25,6 @@ stops-spec =
     (tie.spec
     returns
     mode-requires
-    level-requires
+    same-requires
     returns-2
     returns-3)

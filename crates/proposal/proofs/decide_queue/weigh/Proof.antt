@@ -1,7 +1,8 @@
 use mathlib.Core.Path.{sym, _∙_}
 use native.Mathlib.Omega.{arith}
 use borrow.Author.Needs.{needs}
-use Rattle.examine.proofs.Clauses.{clause-inside, mark-clear, mark-set}
+use Rattle.evaluate.proofs.Records.{clause-inside}
+use Rattle.examine.proofs.Clauses.{mark-clear, mark-set}
 use Rattle.proposal.proofs.Loops.{best-good, visited-beside, weigh-dead, weigh-dropped, weigh-open, weigh-passed, weigh-skipped, weigh-stopped, weigh-unqueued}
 use Rattle.proposal.proofs.decide_queue.weigh.Statement.{statement}
 use Rattle.proposal.proofs.decide_queue.weigh.Tie as tie

@@ -1,7 +1,7 @@
 use mathlib.Core.Path.{sym, _∙_}
 use borrow.Author.Needs.{needs}
+use Rattle.evaluate.proofs.Records.{cached-variable}
 use Rattle.sync.proofs.Tests.{still-stands, broken-is, none-broken}
-use Rattle.sync.proofs.Turns.{cached-variable}
 use Rattle.sync.proofs.decide_queue.breaks.Statement.{statement}
 use Rattle.sync.proofs.decide_queue.breaks.Tie as tie
 
@@ -12,7 +12,7 @@ cache-candidate-requires : tie.Need-cache-candidate-requires
 cache-candidate-requires c κs = search needs
 
 is-true-requires : tie.Need-is-true-requires
-is-true-requires c κs = (c .before .before .before .before .pre .0, cached-variable _ _ _ (c .before .before .before .before .pre .0) (c .cache-candidate .ensures))
+is-true-requires c κs = (c .before .before .before .before .pre .0, cached-variable _ (c .before .before .before .before .pre .0) _ _ (c .cache-candidate .ensures))
 
 returns : tie.Need-returns
 returns c = still-stands _ _ _ (c .before .before .before .before .cache-state .ensures) _ _ (c .before .before .cache-candidate .ensures) (c .before .before .before .if1 .taken) (sym (c .before .is-true .ensures) ∙ c .if2 .taken)

@@ -3,28 +3,29 @@ use Prim.Native.Nat.{_-_, _≤_}
 use native.Mathlib.Omega.{arith}
 use borrow.Author.Needs.{needs}
 use Rattle.sync.proofs.Touched.{enter-turn, enter-done}
+use Rattle.sync.proofs.Turns.{entry-variable}
 use Rattle.sync.specs.Sync.{wordsFrom}
-use Rattle.sync.specs.Table.{entered}
+use Rattle.sync.specs.Table.{entered, entriesOf}
 use Rattle.sync.proofs.table.enter.Statement.{statement}
 use Rattle.sync.proofs.table.enter.Tie as tie
 
 abbrev Inv-loop : tie.InvT-loop
-Inv-loop s t₀ base n from to i₀ t i = (from ≤ i) × (entered t₀ (wordsFrom (record { base = base; size = n }) s from (to - from)) ≡ entered t (wordsFrom (record { base = base; size = n }) s i (to - i)))
+Inv-loop s t₀ old from to i₀ t i = (from ≤ i) × (entered t₀ (wordsFrom (entriesOf old) s from (to - from)) ≡ entered t (wordsFrom (entriesOf old) s i (to - i)))
 
 abbrev μ-loop : tie.MeasureT-loop
-μ-loop s t₀ base n from to i₀ t i = to - i
+μ-loop s t₀ old from to i₀ t i = to - i
 
 loop-holds : tie.Need-loop-holds Inv-loop μ-loop
 loop-holds c = (omega arith, refl)
 
-word-requires : tie.Need-word-requires Inv-loop μ-loop
-word-requires c κs = search needs
+entry-requires : tie.Need-entry-requires Inv-loop μ-loop
+entry-requires c κs = search needs
 
 wide-requires : tie.Need-wide-requires Inv-loop μ-loop
 wide-requires c κs = search needs
 
 element-write-t : tie.Need-element-write-t Inv-loop μ-loop
-element-write-t c = omega (arith, c .wide .ensures ∙ c .before .word .ensures, c .before .before .before .before .before .pre .1 (c .before .before .before .loop .i))
+element-write-t c = omega (arith, c .wide .ensures ∙ c .before .entry .ensures, entry-variable _ (c .before .before .before .before .before .pre .0) (c .before .before .before .before .before .args .old) (c .before .before .before .loop .i))
 
 add-i : tie.Need-add-i Inv-loop μ-loop
 add-i c = search needs
@@ -33,10 +34,10 @@ loop-less : tie.Need-loop-less Inv-loop μ-loop
 loop-less c = search needs
 
 loop-again : tie.Need-loop-again Inv-loop μ-loop
-loop-again c = (omega arith, enter-turn (record { base = c .before .before .before .before .before .args .base; size = c .before .before .before .before .before .args .n }) _ _ _ _ _ _ (c .before .before .before .loop .inv .1) _ (c .wide .ensures ∙ c .before .word .ensures) (c .before .before .loop-test .taken))
+loop-again c = (omega arith, enter-turn (entriesOf (c .before .before .before .before .before .args .old)) _ _ _ _ _ _ (c .before .before .before .loop .inv .1) _ (c .wide .ensures ∙ c .before .entry .ensures) (c .before .before .loop-test .taken))
 
 returns : tie.Need-returns Inv-loop μ-loop
-returns c = enter-done (record { base = c .before .before .before .args .base; size = c .before .before .before .args .n }) _ _ _ _ _ _ (c .before .loop .inv .1) (c .loop-test .left)
+returns c = enter-done (entriesOf (c .before .before .before .args .old)) _ _ _ _ _ _ (c .before .loop .inv .1) (c .loop-test .left)
 
 pub enter-spec : {M : Type 1} → statement M
 enter-spec =
@@ -45,7 +46,7 @@ enter-spec =
     Inv-loop
     μ-loop
     loop-holds
-    word-requires
+    entry-requires
     wide-requires
     element-write-t
     add-i

@@ -3,7 +3,7 @@ use native.Mathlib.Omega.{arith}
 use borrow.Author.Needs.{needs}
 use Rattle.store.specs.Layout.{mirrorLength, trailLength}
 use Rattle.store.specs.Limits.{trailRoom}
-use Rattle.sync.proofs.Turns.{mirror-variables, trail-variables, both-entered}
+use Rattle.sync.proofs.Turns.{both-entered}
 use Rattle.sync.proofs.table.enter_touched.Statement.{statement}
 use Rattle.sync.proofs.table.enter_touched.Tie as tie
 
@@ -20,7 +20,7 @@ wide-requires-2 : tie.Need-wide-requires-2
 wide-requires-2 c κs = search needs
 
 enter-requires : tie.Need-enter-requires
-enter-requires c κs = ((omega (arith, c .before .before .before .before .before .before .pre .long), omega (arith, c .before .wide2 .ensures ∙ c .before .before .mirror-length .ensures, c .before .before .before .before .before .before .pre .ranges mirrorLength trailRoom tt 0)), mirror-variables _ (c .before .before .before .before .before .before .pre))
+enter-requires c κs = (c .before .before .before .before .before .before .pre, omega (arith, c .wide2 .ensures ∙ c .before .mirror-length .ensures, c .before .before .before .before .before .before .pre .ranges mirrorLength trailRoom tt 0))
 
 trail-length-requires : tie.Need-trail-length-requires
 trail-length-requires c κs = search needs
@@ -29,10 +29,10 @@ wide-requires-3 : tie.Need-wide-requires-3
 wide-requires-3 c κs = search needs
 
 enter-requires-2 : tie.Need-enter-requires-2
-enter-requires-2 c κs = ((omega (arith, c .before .before .before .before .before .before .before .before .before .before .pre .long), omega (arith, c .before .wide3 .ensures ∙ c .before .before .trail-length .ensures, c .before .before .before .before .before .before .before .before .before .before .pre .ranges trailLength trailRoom tt 0)), trail-variables _ (c .before .before .before .before .before .before .before .before .before .before .pre))
+enter-requires-2 c κs = (c .before .before .before .before .before .before .before .before .before .before .pre, omega (arith, c .wide3 .ensures ∙ c .before .trail-length .ensures, c .before .before .before .before .before .before .before .before .before .before .pre .ranges trailLength trailRoom tt 0))
 
 returns : tie.Need-returns
-returns c = both-entered _ _ _ _ _ _ _ (c .before .before .before .before .before .before .before .before .wide .ensures ∙ c .before .before .before .before .before .before .before .before .before .sync-floor .ensures) (c .before .before .before .before .before .before .wide2 .ensures ∙ c .before .before .before .before .before .before .before .mirror-length .ensures) (c .before .before .wide3 .ensures ∙ c .before .before .before .trail-length .ensures) (c .before .before .before .before .enter .ensures) (c .enter2 .ensures)
+returns c = both-entered _ _ _ _ _ _ _ (c .before .before .before .before .before .before .before .before .wide .ensures ∙ c .before .before .before .before .before .before .before .before .before .sync-floor .ensures) (c .before .before .before .before .before .wide2 .ensures ∙ c .before .before .before .before .before .before .mirror-length .ensures) (c .before .wide3 .ensures ∙ c .before .before .trail-length .ensures) (c .before .before .before .before .enter .ensures) (c .enter2 .ensures)
 
 pub enter-touched-spec : {M : Type 1} → statement M
 enter-touched-spec =

@@ -1,39 +1,25 @@
--- What the code reads of a cache and what it writes; an inspection and a visit, by what they find. Assumes nothing.
+-- What an examination keeps in a cache; an inspection and a visit, by what they find. Assumes nothing.
 use mathlib.Core.Bool.{true, false}
 use mathlib.Core.List.{List}
 use mathlib.Core.Logic.{_≢_}
 use mathlib.Core.Path.{_≡_, sym, _∙_}
 use Prim.Native.Nat.{ℕ, _<_}
 use borrow.Author.Tests.{eq-eqb, ne-eqb}
-use Rattle.evaluate.specs.Standing.{envOf, memoBy, memoOf}
+use Rattle.evaluate.proofs.Records.{clause-word}
+use Rattle.evaluate.specs.Standing.{envOf, cacheBy, cacheOf}
 use Rattle.evaluate.specs.View.{assigned, listsAt}
-use Rattle.examine.proofs.Clauses.{clause-word, mark-clear, mark-set}
-use Rattle.examine.specs.Cache.{cached, dropped, filled, keyOf, metAt, saved, seenAt, visited}
+use Rattle.examine.proofs.Clauses.{mark-clear, mark-set}
+use Rattle.examine.specs.Cache.{cached, dropped, filled, clauseKey, metAt, saved, seenAt, visited}
 use Rattle.rules.specs.Queue.{seen, stateIn}
 use Rattle.rules.specs.Walk.{active, evaluate, seenAs}
 use Rattle.store.specs.Area.{at}
 use Rattle.store.specs.Layout.{cacheCandidates, cacheCounts, cacheNames, cacheStates, clauseCount, clauseRequirements, queued}
 use Rattle.examine.specs.declared.Met.the-variants.{Unqueued, Dropped, Opened, Dead as MetDead}
-use Rattle.rules.specs.declared.Memo.the-variants.{Dirty, Known}
+use Rattle.rules.specs.declared.Cache.the-variants.{Dirty, Known}
 use Rattle.rules.specs.declared.Seen.{Seen}
 use Rattle.rules.specs.declared.Seen.the-variants.{Shut, Open, Gone}
 use Rattle.rules.specs.declared.State.{State}
 use Rattle.rules.specs.declared.State.the-variants.{Satisfied, Frontier, Dead}
-
--- the cache, by its words
-module _ (w : List ℕ) (key state : ℕ) (is : state ≡ at cacheStates key w) where
-  pub memo-dirty : state ≡ 0 → Dirty ≡ memoOf w key
-  unfolding memoOf memoBy
-  memo-dirty h = rw (← is, eq-eqb state 0 h)
-
-  module _ (x : ℕ) (e : x ≡ at cacheCandidates key w) (h : state ≢ 0) where
-    pub memo-satisfied : state ≡ 1 → Known (Satisfied x) ≡ memoOf w key
-    unfolding memoOf memoBy
-    memo-satisfied i = rw (← is, ne-eqb state 0 h, eq-eqb state 1 i, e)
-
-    pub memo-frontier : (n m : ℕ) → state ≢ 1 → n ≡ at cacheNames key w → m ≡ at cacheCounts key w → Known (Frontier x n m) ≡ memoOf w key
-    unfolding memoOf memoBy
-    memo-frontier n m i f g = rw (← is, ne-eqb state 0 h, ne-eqb state 1 i, e, f, g)
 
 -- what is kept of a state
 module _ (w : List ℕ) (key : ℕ) (t : State) where
@@ -56,20 +42,20 @@ module _ (w : List ℕ) (k : ℕ) where
   inspect-shut h = (rw (h, seen), rw h)
 
   module _ (l : k < at clauseCount 0 w) (key : ℕ) (e : key ≡ at clauseRequirements k w) (h : active (envOf w) (assigned w) k ≡ true) (t : State) (v : Seen) (q : v ≡ seenAs t) where
-    is-key : key ≡ keyOf w k
+    is-key : key ≡ clauseKey w k
     is-key = e ∙ sym (clause-word clauseRequirements w k l)
 
-    pub inspect-known : memoOf w key ≡ Known t → (v ≡ seenAt w k) × (w ≡ filled w k)
+    pub inspect-known : cacheOf w key ≡ Known t → (v ≡ seenAt w k) × (w ≡ filled w k)
     unfolding seenAt filled seen
     inspect-known m =
-        let n : memoOf w (keyOf w k) ≡ Known t = rw is-key at m in
+        let n : cacheOf w (clauseKey w k) ≡ Known t = rw is-key at m in
         (q ∙ rw (h, seen, n, stateIn), rw (h, n))
 
-    pub inspect-dirty : (s : List ℕ) → memoOf w key ≡ Dirty → t ≡ evaluate (assigned w) (listsAt w key) → s ≡ saved w key t → (v ≡ seenAt w k) × (s ≡ filled w k)
+    pub inspect-dirty : (s : List ℕ) → cacheOf w key ≡ Dirty → t ≡ evaluate (assigned w) (listsAt w key) → s ≡ saved w key t → (v ≡ seenAt w k) × (s ≡ filled w k)
     unfolding seenAt filled seen
     inspect-dirty s m z p =
-        let n : memoOf w (keyOf w k) ≡ Dirty = rw is-key at m in
-        let y : t ≡ evaluate (assigned w) (listsAt w (keyOf w k)) = rw is-key at z in
+        let n : cacheOf w (clauseKey w k) ≡ Dirty = rw is-key at m in
+        let y : t ≡ evaluate (assigned w) (listsAt w (clauseKey w k)) = rw is-key at z in
         (q ∙ rw (h, seen, n, stateIn, y), p ∙ rw (h, n, is-key, y))
 
 -- a visit
