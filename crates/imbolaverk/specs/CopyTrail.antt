@@ -25,6 +25,7 @@ abbrev pub fitted : ℕ → Length → Length
 fitted room (Entries n) = cond (ltb room n) (Refused 3) (Entries n)
 fitted room (Refused n) = Refused n
 
+-- on any words: how many entries were copied, or why not
 unfoldable pub copyOut : List ℕ → ℕ → Length
 copyOut w room = fitted room (lengthOut w)
 

@@ -1,3 +1,4 @@
+pub mod Calls
 pub mod CopyTrail
-pub mod Written
 pub mod Proposed
+pub mod Written

@@ -9,12 +9,12 @@ use Rattle.proposal.specs.declared.Proposal.the-variants.{Choose, Nothing, Dead
 use Rattle.settings.specs.declared.activity.Admitted.{Admitted}
 use Rattle.settings.specs.declared.activity.Admitted.the-variants.{Bits, Bad}
 
--- the bits of an activity that a store may hold, else 0
+-- the bits of an activity that a store may hold, else 0, which no chosen one is (`bits-are-stored` of promises)
 abbrev pub bitsOf : Admitted → ℕ
 bitsOf (Bits bits) = bits
 bitsOf Bad = 0
 
--- all seven; "nothing: out[0] = 0, out[6] = dropped, the rest kept"; "8: out[3] = the dead clause's id, out[6] = dropped, the rest kept"
+-- all seven; nothing open: words 0 and 6; a dead clause: words 3 and 6; the rest is kept
 abbrev pub proposed : Proposal → List ℕ → List ℕ
 proposed (Choose candidate parent clause activity count dropped) old =
     written (1 ∷ candidate ∷ parent ∷ clause ∷ bitsOf (admitted activity) ∷ count ∷ dropped ∷ []) old

@@ -1,9 +1,10 @@
 // Registering clauses.
 ghost use mathlib.Core.Path.{_≡_};
-ghost use Rattle.clauses.specs.Register.{registerOut, registerStore, registeredNumber};
+ghost use Rattle.imbolaverk.specs.Calls.{numberOf, leftBy, register};
+ghost use Rattle.clauses.specs.Register.{registeredNumber};
 use clauses::Registered;
 
-fn registered_number(answer: Registered) -> u32
+pub fn registered_number(answer: Registered) -> u32
     ensures { λ r. ⌜ r ≡ registeredNumber answer ⌝ }
 {
     match answer {
@@ -22,7 +23,7 @@ pub extern "C" fn imb_register(
     condition: u32,
     clause: u32,
 ) -> u32
-    ensures { λ r. ⌜ (r ≡ registeredNumber (registerOut (now (s .entry)) parent kind requirement condition)) × (now (s .exit) ≡ registerStore (now (s .entry)) parent kind requirement condition clause) ⌝ }
+    ensures { λ r. ⌜ (r ≡ numberOf (now (s .entry)) (register parent kind requirement condition clause)) × (now (s .exit) ≡ leftBy (now (s .entry)) (register parent kind requirement condition clause)) ⌝ }
 {
     registered_number(clauses::register(s, parent, kind, requirement, condition, clause))
 }

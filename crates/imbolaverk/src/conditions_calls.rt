@@ -1,7 +1,8 @@
 // Conditions: rewriting one to its terms; whether a disjunct holds.
 ghost use mathlib.Core.Path.{_≡_};
 ghost use lib.ListN.{length};
-ghost use Rattle.conditions.specs.Disjunct.{disjunctOut, holdsNumber, holdsValues};
+ghost use Rattle.imbolaverk.specs.Calls.{numberOf, valuesOf, rewrite, disjunct-holds};
+ghost use Rattle.conditions.specs.Disjunct.{holdsNumber, holdsValues};
 ghost use Rattle.conditions.specs.Rewrite.{rewriteOut, rewriteLengths, rewriteCells, rewrittenNumber, rewrittenValues};
 ghost use Rattle.imbolaverk.specs.Written.{written};
 use crate::out;
@@ -45,7 +46,7 @@ pub extern "C" fn imb_rewrite(
     cells: &mut [u32],
     out: &mut [u32; 2],
 ) -> u32
-    ensures { λ r. ⌜ (r ≡ rewrittenNumber (rewriteOut (now (s .entry)) node (length (now (lengths .entry))) (length (now (cells .entry))))) × (now (lengths .exit) ≡ rewriteLengths (now (s .entry)) node (now (lengths .entry)) (now (cells .entry))) × (now (cells .exit) ≡ rewriteCells (now (s .entry)) node (now (lengths .entry)) (now (cells .entry))) × (now (out .exit) ≡ written (rewrittenValues (rewriteOut (now (s .entry)) node (length (now (lengths .entry))) (length (now (cells .entry))))) (now (out .entry))) ⌝ }
+    ensures { λ r. ⌜ (r ≡ numberOf (now (s .entry)) (rewrite node (now (lengths .entry)) (now (cells .entry)))) × (now (lengths .exit) ≡ rewriteLengths (now (s .entry)) node (now (lengths .entry)) (now (cells .entry))) × (now (cells .exit) ≡ rewriteCells (now (s .entry)) node (now (lengths .entry)) (now (cells .entry))) × (now (out .exit) ≡ written (rewrittenValues (rewriteOut (now (s .entry)) node (length (now (lengths .entry))) (length (now (cells .entry))))) (now (out .entry))) ⌝ }
 {
     give_rewritten(conditions::rewrite(s, node, lengths, cells), out)
 }
@@ -60,7 +61,7 @@ pub extern "C" fn imb_disjunct_holds(
     cells: &[u32],
     out: &mut [u32; 1],
 ) -> u32
-    ensures { λ r. ⌜ (r ≡ holdsNumber (disjunctOut (now (s .entry)) (now (kinds .entry)) (now (starts .entry)) (now (lengths .entry)) (now (cells .entry)))) × (now (out .exit) ≡ written (holdsValues (disjunctOut (now (s .entry)) (now (kinds .entry)) (now (starts .entry)) (now (lengths .entry)) (now (cells .entry)))) (now (out .entry))) ⌝ }
+    ensures { λ r. ⌜ (r ≡ numberOf (now (s .entry)) (disjunct-holds (now (kinds .entry)) (now (starts .entry)) (now (lengths .entry)) (now (cells .entry)))) × (now (out .exit) ≡ written (valuesOf (now (s .entry)) (disjunct-holds (now (kinds .entry)) (now (starts .entry)) (now (lengths .entry)) (now (cells .entry)))) (now (out .entry))) ⌝ }
 {
     give_holds(
         conditions::disjunct_holds(s, kinds, starts, lengths, cells),

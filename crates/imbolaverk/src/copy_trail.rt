@@ -2,6 +2,7 @@
 ghost use mathlib.Core.Path.{_≡_};
 ghost use Prim.Native.Nat.{_<_, _≤_};
 ghost use lib.ListN.{length};
+ghost use Rattle.imbolaverk.specs.Calls.{numberOf, copy-trail};
 ghost use Rattle.imbolaverk.specs.CopyTrail.{copied, copyOut, countOf, copiedCount};
 ghost use Rattle.imbolaverk.specs.Written.{written};
 ghost use Rattle.store.specs.Layout.{words};
@@ -76,7 +77,7 @@ pub fn copy_count(s: &[u32], number: u32) -> usize
 // Copies the whole trail out; a shorter list is refused with 3.
 #[no_mangle]
 pub extern "C" fn imb_copy_trail(s: &[u32], list: &mut [Decision], out: &mut [u32; 1]) -> u32
-    ensures { λ r. ⌜ (r ≡ lengthNumber (copyOut (now (s .entry)) (length (now (list .entry))))) × (now (list .exit) ≡ copied (now (s .entry)) (now (list .entry)) (copiedCount (copyOut (now (s .entry)) (length (now (list .entry)))))) × (now (out .exit) ≡ written (lengthValues (copyOut (now (s .entry)) (length (now (list .entry))))) (now (out .entry))) ⌝ }
+    ensures { λ r. ⌜ (r ≡ numberOf (now (s .entry)) (copy-trail (now (list .entry)))) × (now (list .exit) ≡ copied (now (s .entry)) (now (list .entry)) (copiedCount (copyOut (now (s .entry)) (length (now (list .entry)))))) × (now (out .exit) ≡ written (lengthValues (copyOut (now (s .entry)) (length (now (list .entry))))) (now (out .entry))) ⌝ }
 {
     let room = list.len();
     let number = copy_number(s, room, out);

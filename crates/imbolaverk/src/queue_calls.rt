@@ -1,17 +1,18 @@
 // The queue: syncing and proposing.
 ghost use mathlib.Core.Path.{_≡_};
+ghost use Rattle.imbolaverk.specs.Calls.{numberOf, leftBy, valuesOf, sync, propose};
 ghost use Rattle.imbolaverk.specs.Proposed.{bitsOf, proposed};
 ghost use Rattle.imbolaverk.specs.Written.{written};
-ghost use Rattle.proposal.specs.Propose.{proposalOut, proposalStore, proposalNumber};
+ghost use Rattle.proposal.specs.Propose.{proposalOut, proposalNumber};
 ghost use Rattle.settings.specs.Activity.{admitted};
-ghost use Rattle.sync.specs.Sync.{syncOut, syncStore, syncedNumber, syncedValues};
+ghost use Rattle.sync.specs.Sync.{syncedNumber, syncedValues};
 use crate::out;
 use proposal::Proposal;
 use settings::activity;
 use settings::activity::Admitted;
 use sync::Synced;
 
-fn give_synced(answer: Synced, out: &mut [u32; 1]) -> u32
+pub fn give_synced(answer: Synced, out: &mut [u32; 1]) -> u32
     ensures { λ r. ⌜ (r ≡ syncedNumber answer) × (now (out .exit) ≡ written (syncedValues answer) (now (out .entry))) ⌝ }
 {
     match answer {
@@ -33,7 +34,7 @@ fn bits_of(activity: f32) -> u32
     }
 }
 
-fn give_proposal(answer: Proposal, out: &mut [u32; 7]) -> u32
+pub fn give_proposal(answer: Proposal, out: &mut [u32; 7]) -> u32
     ensures { λ r. ⌜ (r ≡ proposalNumber answer) × (now (out .exit) ≡ proposed answer (now (out .entry))) ⌝ }
 {
     match answer {
@@ -63,14 +64,14 @@ fn give_proposal(answer: Proposal, out: &mut [u32; 7]) -> u32
 
 #[no_mangle]
 pub extern "C" fn imb_sync(s: &mut [u32], out: &mut [u32; 1]) -> u32
-    ensures { λ r. ⌜ (r ≡ syncedNumber (syncOut (now (s .entry)))) × (now (s .exit) ≡ syncStore (now (s .entry))) × (now (out .exit) ≡ written (syncedValues (syncOut (now (s .entry)))) (now (out .entry))) ⌝ }
+    ensures { λ r. ⌜ (r ≡ numberOf (now (s .entry)) sync) × (now (s .exit) ≡ leftBy (now (s .entry)) sync) × (now (out .exit) ≡ written (valuesOf (now (s .entry)) sync) (now (out .entry))) ⌝ }
 {
     give_synced(sync::sync(s), out)
 }
 
 #[no_mangle]
 pub extern "C" fn imb_propose(s: &mut [u32], out: &mut [u32; 7]) -> u32
-    ensures { λ r. ⌜ (r ≡ proposalNumber (proposalOut (now (s .entry)))) × (now (s .exit) ≡ proposalStore (now (s .entry))) × (now (out .exit) ≡ proposed (proposalOut (now (s .entry))) (now (out .entry))) ⌝ }
+    ensures { λ r. ⌜ (r ≡ numberOf (now (s .entry)) propose) × (now (s .exit) ≡ leftBy (now (s .entry)) propose) × (now (out .exit) ≡ proposed (proposalOut (now (s .entry))) (now (out .entry))) ⌝ }
 {
     give_proposal(proposal::propose(s), out)
 }

@@ -1,8 +1,9 @@
 // Candidate tables: loading, copying out.
 ghost use mathlib.Core.Path.{_≡_};
+ghost use Rattle.imbolaverk.specs.Calls.{numberOf, leftBy, load-candidates, copy-candidates};
 ghost use Rattle.imbolaverk.specs.Written.{written};
 ghost use Rattle.requirement.specs.Copy.{copyOut, copyLengths, copyCells, copiedNumber, copiedValues};
-ghost use Rattle.requirement.specs.Load.{loadOut, loadStore, loadedNumber};
+ghost use Rattle.requirement.specs.Load.{loadedNumber};
 use crate::out;
 use requirement::Copied;
 use requirement::Loaded;
@@ -37,7 +38,7 @@ pub extern "C" fn imb_load_candidates(
     lengths: &[u32],
     cells: &[u32],
 ) -> u32
-    ensures { λ r. ⌜ (r ≡ loadedNumber (loadOut (now (s .entry)) kind id (now (lengths .entry)) (now (cells .entry)))) × (now (s .exit) ≡ loadStore (now (s .entry)) kind id (now (lengths .entry)) (now (cells .entry))) ⌝ }
+    ensures { λ r. ⌜ (r ≡ numberOf (now (s .entry)) (load-candidates kind id (now (lengths .entry)) (now (cells .entry)))) × (now (s .exit) ≡ leftBy (now (s .entry)) (load-candidates kind id (now (lengths .entry)) (now (cells .entry)))) ⌝ }
 {
     loaded_number(requirement::load_candidates(s, kind, id, lengths, cells))
 }
@@ -52,7 +53,7 @@ pub extern "C" fn imb_copy_candidates(
     cells: &mut [u32],
     out: &mut [u32; 2],
 ) -> u32
-    ensures { λ r. ⌜ (r ≡ copiedNumber (copyOut (now (s .entry)) kind id (now (lengths .entry)) (now (cells .entry)))) × (now (lengths .exit) ≡ copyLengths (now (s .entry)) kind id (now (lengths .entry)) (now (cells .entry))) × (now (cells .exit) ≡ copyCells (now (s .entry)) kind id (now (lengths .entry)) (now (cells .entry))) × (now (out .exit) ≡ written (copiedValues (copyOut (now (s .entry)) kind id (now (lengths .entry)) (now (cells .entry)))) (now (out .entry))) ⌝ }
+    ensures { λ r. ⌜ (r ≡ numberOf (now (s .entry)) (copy-candidates kind id (now (lengths .entry)) (now (cells .entry)))) × (now (lengths .exit) ≡ copyLengths (now (s .entry)) kind id (now (lengths .entry)) (now (cells .entry))) × (now (cells .exit) ≡ copyCells (now (s .entry)) kind id (now (lengths .entry)) (now (cells .entry))) × (now (out .exit) ≡ written (copiedValues (copyOut (now (s .entry)) kind id (now (lengths .entry)) (now (cells .entry)))) (now (out .entry))) ⌝ }
 {
     give_copied(
         requirement::copy_candidates(s, kind, id, lengths, cells),

@@ -1,7 +1,8 @@
 // The settings: hot names, activities, the mode.
 ghost use mathlib.Core.Path.{_≡_};
+ghost use Rattle.imbolaverk.specs.Calls.{numberOf, leftBy, valuesOf, mark-hot, set-mode, settings, name-of};
 ghost use Rattle.imbolaverk.specs.Written.{written};
-ghost use Rattle.settings.specs.Settings.{hotOut, hotStore, activityOut, activityStore, modeOut, modeStore, tunedNumber, modeNow, modeNumber, modeValues, nameNow, nameNumber, nameValues};
+ghost use Rattle.settings.specs.Settings.{activityOut, activityStore, tunedNumber, modeNumber, modeValues, nameNumber, nameValues};
 use crate::out;
 use settings::Mode;
 use settings::Name;
@@ -43,7 +44,7 @@ fn give_name(answer: Name, out: &mut [u32; 2]) -> u32
 // Makes a name hot, for good.
 #[no_mangle]
 pub extern "C" fn imb_mark_hot(s: &mut [u32], name: u32) -> u32
-    ensures { λ r. ⌜ (r ≡ tunedNumber (hotOut (now (s .entry)) name)) × (now (s .exit) ≡ hotStore (now (s .entry)) name) ⌝ }
+    ensures { λ r. ⌜ (r ≡ numberOf (now (s .entry)) (mark-hot name)) × (now (s .exit) ≡ leftBy (now (s .entry)) (mark-hot name)) ⌝ }
 {
     tuned_number(settings::mark_hot(s, name))
 }
@@ -59,7 +60,7 @@ pub extern "C" fn imb_set_activity(s: &mut [u32], name: u32, activity: f32) -> u
 // Sets the mode: 1 standard, 0 not.
 #[no_mangle]
 pub extern "C" fn imb_set_mode(s: &mut [u32], mode: u32) -> u32
-    ensures { λ r. ⌜ (r ≡ tunedNumber (modeOut (now (s .entry)) mode)) × (now (s .exit) ≡ modeStore (now (s .entry)) mode) ⌝ }
+    ensures { λ r. ⌜ (r ≡ numberOf (now (s .entry)) (set-mode mode)) × (now (s .exit) ≡ leftBy (now (s .entry)) (set-mode mode)) ⌝ }
 {
     tuned_number(settings::set_mode(s, mode))
 }
@@ -67,7 +68,7 @@ pub extern "C" fn imb_set_mode(s: &mut [u32], mode: u32) -> u32
 // The mode.
 #[no_mangle]
 pub extern "C" fn imb_settings(s: &[u32], out: &mut [u32; 1]) -> u32
-    ensures { λ r. ⌜ (r ≡ modeNumber (modeNow (now (s .entry)))) × (now (out .exit) ≡ written (modeValues (modeNow (now (s .entry)))) (now (out .entry))) ⌝ }
+    ensures { λ r. ⌜ (r ≡ numberOf (now (s .entry)) settings) × (now (out .exit) ≡ written (valuesOf (now (s .entry)) settings) (now (out .entry))) ⌝ }
 {
     give_mode(settings::mode_of(s), out)
 }
@@ -75,7 +76,7 @@ pub extern "C" fn imb_settings(s: &[u32], out: &mut [u32; 1]) -> u32
 // The bits of a name's activity, and whether it is hot.
 #[no_mangle]
 pub extern "C" fn imb_name(s: &[u32], name: u32, out: &mut [u32; 2]) -> u32
-    ensures { λ r. ⌜ (r ≡ nameNumber (nameNow (now (s .entry)) name)) × (now (out .exit) ≡ written (nameValues (nameNow (now (s .entry)) name)) (now (out .entry))) ⌝ }
+    ensures { λ r. ⌜ (r ≡ numberOf (now (s .entry)) (name-of name)) × (now (out .exit) ≡ written (valuesOf (now (s .entry)) (name-of name)) (now (out .entry))) ⌝ }
 {
     give_name(settings::name_of(s, name), out)
 }

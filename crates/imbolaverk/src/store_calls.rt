@@ -1,6 +1,7 @@
 // A store: how many words it needs, and a fresh one.
 ghost use mathlib.Core.Path.{_≡_};
-ghost use Rattle.store.specs.Fresh.{freshOut, freshStore, madeNumber};
+ghost use Rattle.imbolaverk.specs.Calls.{numberOf, leftBy, fresh};
+ghost use Rattle.store.specs.Fresh.{madeNumber};
 ghost use Rattle.store.specs.Layout.{words};
 use store::Made;
 use store::areas;
@@ -26,7 +27,7 @@ pub extern "C" fn imb_words() -> usize
 // Makes a fresh store, whatever the words held.
 #[no_mangle]
 pub extern "C" fn imb_fresh(s: &mut [u32]) -> u32
-    ensures { λ r. ⌜ (r ≡ madeNumber (freshOut (now (s .entry)))) × (now (s .exit) ≡ freshStore (now (s .entry))) ⌝ }
+    ensures { λ r. ⌜ (r ≡ numberOf (now (s .entry)) fresh) × (now (s .exit) ≡ leftBy (now (s .entry)) fresh) ⌝ }
 {
     made_number(fresh::fresh(s))
 }

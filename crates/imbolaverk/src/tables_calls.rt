@@ -1,10 +1,7 @@
 // Loading version sets, unions, disjunctions and condition nodes.
 ghost use mathlib.Core.Path.{_≡_};
+ghost use Rattle.imbolaverk.specs.Calls.{numberOf, leftBy, load-version-set, load-union, load-disjunction, load-condition};
 ghost use Rattle.tables.specs.Answer.{loadedNumber};
-ghost use Rattle.tables.specs.Condition.{loadConditionOut, loadConditionStore};
-ghost use Rattle.tables.specs.Disjunction.{loadDisjunctionOut, loadDisjunctionStore};
-ghost use Rattle.tables.specs.Union.{loadUnionOut, loadUnionStore};
-ghost use Rattle.tables.specs.VersionSet.{loadVersionSetOut, loadVersionSetStore};
 use tables::Loaded;
 
 fn loaded_number(answer: Loaded) -> u32
@@ -19,7 +16,7 @@ fn loaded_number(answer: Loaded) -> u32
 // Loads a version set: it is of a name.
 #[no_mangle]
 pub extern "C" fn imb_load_version_set(s: &mut [u32], set: u32, name: u32) -> u32
-    ensures { λ r. ⌜ (r ≡ loadedNumber (loadVersionSetOut (now (s .entry)) set name)) × (now (s .exit) ≡ loadVersionSetStore (now (s .entry)) set name) ⌝ }
+    ensures { λ r. ⌜ (r ≡ numberOf (now (s .entry)) (load-version-set set name)) × (now (s .exit) ≡ leftBy (now (s .entry)) (load-version-set set name)) ⌝ }
 {
     loaded_number(tables::load_version_set(s, set, name))
 }
@@ -27,7 +24,7 @@ pub extern "C" fn imb_load_version_set(s: &mut [u32], set: u32, name: u32) -> u3
 // Loads a union of version sets.
 #[no_mangle]
 pub extern "C" fn imb_load_union(s: &mut [u32], union: u32, members: &[u32]) -> u32
-    ensures { λ r. ⌜ (r ≡ loadedNumber (loadUnionOut (now (s .entry)) union (now (members .entry)))) × (now (s .exit) ≡ loadUnionStore (now (s .entry)) union (now (members .entry))) ⌝ }
+    ensures { λ r. ⌜ (r ≡ numberOf (now (s .entry)) (load-union union (now (members .entry)))) × (now (s .exit) ≡ leftBy (now (s .entry)) (load-union union (now (members .entry)))) ⌝ }
 {
     loaded_number(tables::load_union(s, union, members))
 }
@@ -40,7 +37,7 @@ pub extern "C" fn imb_load_disjunction(
     variables: &[u32],
     signs: &[u32],
 ) -> u32
-    ensures { λ r. ⌜ (r ≡ loadedNumber (loadDisjunctionOut (now (s .entry)) disjunction (now (variables .entry)) (now (signs .entry)))) × (now (s .exit) ≡ loadDisjunctionStore (now (s .entry)) disjunction (now (variables .entry)) (now (signs .entry))) ⌝ }
+    ensures { λ r. ⌜ (r ≡ numberOf (now (s .entry)) (load-disjunction disjunction (now (variables .entry)) (now (signs .entry)))) × (now (s .exit) ≡ leftBy (now (s .entry)) (load-disjunction disjunction (now (variables .entry)) (now (signs .entry)))) ⌝ }
 {
     loaded_number(tables::load_disjunction(s, disjunction, variables, signs))
 }
@@ -54,7 +51,7 @@ pub extern "C" fn imb_load_condition(
     left: u32,
     right: u32,
 ) -> u32
-    ensures { λ r. ⌜ (r ≡ loadedNumber (loadConditionOut (now (s .entry)) node kind left right)) × (now (s .exit) ≡ loadConditionStore (now (s .entry)) node kind left right) ⌝ }
+    ensures { λ r. ⌜ (r ≡ numberOf (now (s .entry)) (load-condition node kind left right)) × (now (s .exit) ≡ leftBy (now (s .entry)) (load-condition node kind left right)) ⌝ }
 {
     loaded_number(tables::load_condition(s, node, kind, left, right))
 }

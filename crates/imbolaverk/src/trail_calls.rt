@@ -1,11 +1,12 @@
 // The trail: assigning, undoing, looking up.
 ghost use mathlib.Core.Path.{_≡_};
+ghost use Rattle.imbolaverk.specs.Calls.{numberOf, leftBy, valuesOf, assign, undo-last, undo-until, next-unpropagated, value-of, clause-of, trail-length};
 ghost use Rattle.imbolaverk.specs.Written.{written};
-ghost use Rattle.trail.specs.Assign.{assignOut, assignStore, assignedNumber, assignedValues};
-ghost use Rattle.trail.specs.Look.{clauseOut, causeNumber, causeValues, valueOut, valuedNumber, valuedValues, lengthOut, lengthNumber, lengthValues};
-ghost use Rattle.trail.specs.Next.{nextOut, nextStore, nextNumber, nextValues};
-ghost use Rattle.trail.specs.UndoLast.{undoLastOut, undoLastStore, undoneNumber, undoneValues};
-ghost use Rattle.trail.specs.UndoUntil.{undoUntilOut, undoUntilStore, untilNumber};
+ghost use Rattle.trail.specs.Assign.{assignedNumber, assignedValues};
+ghost use Rattle.trail.specs.Look.{causeNumber, causeValues, valuedNumber, valuedValues, lengthNumber, lengthValues};
+ghost use Rattle.trail.specs.Next.{nextNumber, nextValues};
+ghost use Rattle.trail.specs.UndoLast.{undoneNumber, undoneValues};
+ghost use Rattle.trail.specs.UndoUntil.{untilNumber};
 use crate::out;
 use trail::Assigned;
 use trail::Cause;
@@ -15,7 +16,7 @@ use trail::Undone;
 use trail::Until;
 use trail::Valued;
 
-fn give_assigned(answer: Assigned, out: &mut [u32; 1]) -> u32
+pub fn give_assigned(answer: Assigned, out: &mut [u32; 1]) -> u32
     ensures { λ r. ⌜ (r ≡ assignedNumber answer) × (now (out .exit) ≡ written (assignedValues answer) (now (out .entry))) ⌝ }
 {
     match answer {
@@ -31,7 +32,7 @@ fn give_assigned(answer: Assigned, out: &mut [u32; 1]) -> u32
     }
 }
 
-fn give_undone(answer: Undone, out: &mut [u32; 4]) -> u32
+pub fn give_undone(answer: Undone, out: &mut [u32; 4]) -> u32
     ensures { λ r. ⌜ (r ≡ undoneNumber answer) × (now (out .exit) ≡ written (undoneValues answer) (now (out .entry))) ⌝ }
 {
     match answer {
@@ -43,7 +44,7 @@ fn give_undone(answer: Undone, out: &mut [u32; 4]) -> u32
     }
 }
 
-fn until_number(answer: Until) -> u32
+pub fn until_number(answer: Until) -> u32
     ensures { λ r. ⌜ r ≡ untilNumber answer ⌝ }
 {
     match answer {
@@ -52,7 +53,7 @@ fn until_number(answer: Until) -> u32
     }
 }
 
-fn give_next(answer: Next, out: &mut [u32; 4]) -> u32
+pub fn give_next(answer: Next, out: &mut [u32; 4]) -> u32
     ensures { λ r. ⌜ (r ≡ nextNumber answer) × (now (out .exit) ≡ written (nextValues answer) (now (out .entry))) ⌝ }
 {
     match answer {
@@ -76,7 +77,7 @@ fn give_value(answer: Valued, out: &mut [u32; 2]) -> u32
             out::set_two(out, value, level);
             0
         }
-        Valued::Open => {
+        Valued::Undecided => {
             out::set_two(out, 2, 0);
             0
         }
@@ -122,15 +123,15 @@ pub extern "C" fn imb_assign(
     clause: u32,
     out: &mut [u32; 1],
 ) -> u32
-    ensures { λ r. ⌜ (r ≡ assignedNumber (assignOut (now (s .entry)) variable value level)) × (now (s .exit) ≡ assignStore (now (s .entry)) variable value level clause) × (now (out .exit) ≡ written (assignedValues (assignOut (now (s .entry)) variable value level)) (now (out .entry))) ⌝ }
+    ensures { λ r. ⌜ (r ≡ numberOf (now (s .entry)) (assign variable value level clause)) × (now (s .exit) ≡ leftBy (now (s .entry)) (assign variable value level clause)) × (now (out .exit) ≡ written (valuesOf (now (s .entry)) (assign variable value level clause)) (now (out .entry))) ⌝ }
 {
     give_assigned(trail::assign(s, variable, value, level, clause), out)
 }
 
-// Takes the last entry back; the only entry stays (6).
+// Takes the last entry back; with fewer than two entries 6.
 #[no_mangle]
 pub extern "C" fn imb_undo_last(s: &mut [u32], out: &mut [u32; 4]) -> u32
-    ensures { λ r. ⌜ (r ≡ undoneNumber (undoLastOut (now (s .entry)))) × (now (s .exit) ≡ undoLastStore (now (s .entry))) × (now (out .exit) ≡ written (undoneValues (undoLastOut (now (s .entry)))) (now (out .entry))) ⌝ }
+    ensures { λ r. ⌜ (r ≡ numberOf (now (s .entry)) undo-last) × (now (s .exit) ≡ leftBy (now (s .entry)) undo-last) × (now (out .exit) ≡ written (valuesOf (now (s .entry)) undo-last) (now (out .entry))) ⌝ }
 {
     give_undone(trail::undo_last(s), out)
 }
@@ -138,7 +139,7 @@ pub extern "C" fn imb_undo_last(s: &mut [u32], out: &mut [u32; 4]) -> u32
 // Takes entries back while the last one's level is above `level`; 0 clears the trail.
 #[no_mangle]
 pub extern "C" fn imb_undo_until(s: &mut [u32], level: u32) -> u32
-    ensures { λ r. ⌜ (r ≡ untilNumber (undoUntilOut (now (s .entry)) level)) × (now (s .exit) ≡ undoUntilStore (now (s .entry)) level) ⌝ }
+    ensures { λ r. ⌜ (r ≡ numberOf (now (s .entry)) (undo-until level)) × (now (s .exit) ≡ leftBy (now (s .entry)) (undo-until level)) ⌝ }
 {
     until_number(trail::undo_until(s, level))
 }
@@ -146,7 +147,7 @@ pub extern "C" fn imb_undo_until(s: &mut [u32], level: u32) -> u32
 // Hands out the entry at the propagation index, which moves on.
 #[no_mangle]
 pub extern "C" fn imb_next_unpropagated(s: &mut [u32], out: &mut [u32; 4]) -> u32
-    ensures { λ r. ⌜ (r ≡ nextNumber (nextOut (now (s .entry)))) × (now (s .exit) ≡ nextStore (now (s .entry))) × (now (out .exit) ≡ written (nextValues (nextOut (now (s .entry)))) (now (out .entry))) ⌝ }
+    ensures { λ r. ⌜ (r ≡ numberOf (now (s .entry)) next-unpropagated) × (now (s .exit) ≡ leftBy (now (s .entry)) next-unpropagated) × (now (out .exit) ≡ written (valuesOf (now (s .entry)) next-unpropagated) (now (out .entry))) ⌝ }
 {
     give_next(trail::next_unpropagated(s), out)
 }
@@ -154,7 +155,7 @@ pub extern "C" fn imb_next_unpropagated(s: &mut [u32], out: &mut [u32; 4]) -> u3
 // The value (0 false, 1 true, 2 undecided) and the level of a variable.
 #[no_mangle]
 pub extern "C" fn imb_value_of(s: &[u32], variable: u32, out: &mut [u32; 2]) -> u32
-    ensures { λ r. ⌜ (r ≡ valuedNumber (valueOut (now (s .entry)) variable)) × (now (out .exit) ≡ written (valuedValues (valueOut (now (s .entry)) variable)) (now (out .entry))) ⌝ }
+    ensures { λ r. ⌜ (r ≡ numberOf (now (s .entry)) (value-of variable)) × (now (out .exit) ≡ written (valuesOf (now (s .entry)) (value-of variable)) (now (out .entry))) ⌝ }
 {
     give_value(trail::value_of(s, variable), out)
 }
@@ -162,7 +163,7 @@ pub extern "C" fn imb_value_of(s: &[u32], variable: u32, out: &mut [u32; 2]) -> 
 // The clause that a variable was assigned for, if it was assigned.
 #[no_mangle]
 pub extern "C" fn imb_clause_of(s: &[u32], variable: u32, out: &mut [u32; 2]) -> u32
-    ensures { λ r. ⌜ (r ≡ causeNumber (clauseOut (now (s .entry)) variable)) × (now (out .exit) ≡ written (causeValues (clauseOut (now (s .entry)) variable)) (now (out .entry))) ⌝ }
+    ensures { λ r. ⌜ (r ≡ numberOf (now (s .entry)) (clause-of variable)) × (now (out .exit) ≡ written (valuesOf (now (s .entry)) (clause-of variable)) (now (out .entry))) ⌝ }
 {
     give_cause(trail::clause_of(s, variable), out)
 }
@@ -170,7 +171,7 @@ pub extern "C" fn imb_clause_of(s: &[u32], variable: u32, out: &mut [u32; 2]) ->
 // How many entries the trail has.
 #[no_mangle]
 pub extern "C" fn imb_trail_length(s: &[u32], out: &mut [u32; 1]) -> u32
-    ensures { λ r. ⌜ (r ≡ lengthNumber (lengthOut (now (s .entry)))) × (now (out .exit) ≡ written (lengthValues (lengthOut (now (s .entry)))) (now (out .entry))) ⌝ }
+    ensures { λ r. ⌜ (r ≡ numberOf (now (s .entry)) trail-length) × (now (out .exit) ≡ written (valuesOf (now (s .entry)) trail-length) (now (out .entry))) ⌝ }
 {
     give_length(trail::trail_length(s), out)
 }

@@ -1,0 +1,16 @@
+use borrow.Author.Needs.{needs}
+use mathlib.Core.Path.{refl}
+use Rattle.inner.proofs.inner_sound.Statement.{statement}
+use Rattle.inner.proofs.inner_sound.Tie as tie
+
+sound-requires : tie.Need-sound-requires
+sound-requires c κs = search needs
+
+returns : tie.Need-returns
+returns c = simp (← c .before .sound .ensures, c .if1 .taken) refl
+
+returns-2 : tie.Need-returns-2
+returns-2 c = simp (← c .before .sound .ensures, c .if1 .left) refl
+
+pub inner-sound-spec : {M : Type 1} → statement M
+inner-sound-spec = tie.close (tie.spec sound-requires returns returns-2)
