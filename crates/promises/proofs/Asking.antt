@@ -3,10 +3,9 @@ use mathlib.Core.Bool.{Bool, true, false, cond}
 use mathlib.Core.List.{List}
 use mathlib.Core.Path.{_≡_, refl, ap, _∙_, fun-ext}
 use Prim.Native.Nat.{ℕ}
-use lib.Dec.{T}
 use Rattle.evaluate.proofs.Frames.{env-same, mirror-same, trail-same}
 use Rattle.evaluate.specs.Standing.{envOf, queueOf, storeOf, trailOf}
-use Rattle.promises.proofs.Genuine.{Genuine, mapped-frame, mapped-same, rooted-frame}
+use Rattle.promises.proofs.Genuine.{Genuine, mapped-frame, mapped-same, all-loaded-frame}
 use Rattle.proposal.proofs.Answers.{synced-store}
 use Rattle.proposal.proofs.Kept.{answer-along, answer-beside}
 use Rattle.proposal.specs.Propose.{answer, proposalInStore, proposalStore, unsynced}
@@ -14,8 +13,7 @@ use Rattle.rules.specs.Queue.{propose}
 use Rattle.rules.specs.Store.{ask, asked, asks, syncs, then}
 use Rattle.store.proofs.AreaLaws.{at-same}
 use Rattle.store.proofs.Soundness.{sound-shape}
-use Rattle.store.specs.Area.{Area, apart, at}
-use Rattle.store.specs.Layout.{environmentRegion, mirrorRegion, queueRegion, syncFloor, trailLength, trailRegion, trailVariables}
+use Rattle.store.specs.Layout.{environmentRegion, mirrorRegion, syncFloor, trailRegion}
 use Rattle.store.specs.Shape.{Sound}
 use Rattle.sync.proofs.Kept.{sync-outside, sync-sound}
 use Rattle.sync.proofs.Standing.{sync-assigned, sync-stands, sync-trail}
@@ -31,7 +29,7 @@ module _ (w : List ℕ) (h : Sound w) (told : (v : ℕ) → assigned w v ≡ val
       (answer-along w h .2 .0 ∙ ap (λ (a : ℕ → Value). (propose (envOf w) a (queueOf w)) .left) (fun-ext told), answer-along w h .2 .1)
 
   -- A PROPOSAL leaves the words of the store that document 01's proposal leaves
-  pub ask-is : storeOf (proposalInStore w) ≡ ask (storeOf w)
+  ask-is : storeOf (proposalInStore w) ≡ ask (storeOf w)
   unfolding proposalInStore
   ask-is =
       let b : Beside (answer w .left) w = along .1 in
@@ -48,7 +46,7 @@ proposed-beside : (w : List ℕ) → Sound w → Beside (proposalInStore w) w
 unfolding proposalInStore
 proposed-beside w h = answer-beside w h
 
--- a proposal
+-- A PROPOSAL KEEPS WORDS GENUINE
 pub propose-genuine : (w : List ℕ) → Genuine w → Genuine (proposalStore w)
 unfolding proposalStore
 propose-genuine w g = rw (sound-shape w (g .sound)) (go (unsynced w) refl)
@@ -60,24 +58,18 @@ propose-genuine w g = rw (sound-shape w (g .sound)) (go (unsynced w) refl)
         record {
           sound = b .sound;
           mapped = mapped-frame (proposalInStore w) w (b .outside trailRegion tt) (g .mapped);
-          rooted = rooted-frame (proposalInStore w) w (b .outside environmentRegion tt) (g .rooted);
+          all-loaded = all-loaded-frame (proposalInStore w) w (b .outside environmentRegion tt) (g .all-loaded);
           reached = rw (ask-is w (g .sound) (g .mapped .told)) (then (g .reached) (asks (synced-store w (g .sound) e)));
         }
 
--- a sync
-sync-at : (w : List ℕ) → Sound w → (a : Area) → T (apart a queueRegion) → T (apart a mirrorRegion) → T (apart a syncFloor) → (i : ℕ) → at a i (syncInStore w) ≡ at a i w
-unfolding at
-sync-at w h a p q r i = rw (sync-outside w h a p q r)
-
+-- A SYNC KEEPS WORDS GENUINE
 pub sync-genuine : (w : List ℕ) → Genuine w → Genuine (syncStore w)
 unfolding syncStore
 sync-genuine w g =
     rw (sound-shape w (g .sound))
     (record {
       sound = sync-sound w (g .sound);
-      mapped =
-          mapped-same (syncInStore w) w (sync-assigned w (g .sound)) (sync-trail w (g .sound))
-          (sync-at w (g .sound) trailLength tt tt tt 0) (sync-at w (g .sound) trailVariables tt tt tt) (g .mapped);
-      rooted = rooted-frame (syncInStore w) w (sync-outside w (g .sound) environmentRegion tt tt tt) (g .rooted);
+      mapped = mapped-same (syncInStore w) w (sync-assigned w (g .sound)) (sync-trail w (g .sound)) (g .mapped);
+      all-loaded = all-loaded-frame (syncInStore w) w (sync-outside w (g .sound) environmentRegion tt tt tt) (g .all-loaded);
       reached = rw (sync-stands w (g .sound) (g .mapped .told)) (then (g .reached) syncs);
     })

@@ -12,13 +12,13 @@ use Rattle.promises.proofs.Registering.{register-genuine}
 use Rattle.promises.proofs.Setting.{mark-hot-genuine, set-activity-genuine, set-mode-genuine}
 use Rattle.promises.proofs.Starting.{fresh-genuine}
 use Rattle.promises.proofs.Trailing.{assign-genuine, next-genuine, undo-last-genuine, undo-until-genuine}
-use Rattle.promises.specs.Calls.{Call, fresh, load-version-set, load-union, load-candidates, load-disjunction, load-condition, register, mark-hot, set-activity, set-mode, assign, undo-last, undo-until, next-unpropagated, sync, propose, value-of, clause-of, trail-length, copy-trail, copy-candidates, rewrite, disjunct-holds, settings, name-of, ReachedWords, leftBy, run}
+use Rattle.imbolaverk.specs.Calls.{Call, fresh, load-version-set, load-union, load-candidates, load-disjunction, load-condition, register, mark-hot, set-activity, set-mode, assign, undo-last, undo-until, next-unpropagated, sync, propose, value-of, clause-of, trail-length, copy-trail, copy-candidates, rewrite, disjunct-holds, settings, name-of, ReachedWords, leftBy, run}
 use Rattle.store.proofs.Soundness.{sound-shape}
 use Rattle.store.specs.Fresh.{freshStore}
 use Rattle.store.specs.Shape.{soundShape}
 
+-- EVERY CALL, refused or not
 pub call-genuine : (w : List ℕ) (c : Call) → Genuine w → Genuine (leftBy w c)
-unfolding leftBy
 call-genuine w fresh g = fresh-genuine w (g .sound .long)
 call-genuine w (load-version-set set name) g = load-version-set-genuine w set name g
 call-genuine w (load-union union members) g = load-union-genuine w union members g
@@ -45,16 +45,18 @@ call-genuine w (disjunct-holds kinds starts lengths cells) g = g
 call-genuine w settings g = g
 call-genuine w (name-of name) g = g
 
+-- any calls, one after the other
 pub run-genuine : (w : List ℕ) (cs : List Call) → Genuine w → Genuine (run w cs)
 unfolding run
 run-genuine w [] g = g
 run-genuine w (c ∷ cs) g = run-genuine (leftBy w c) cs (call-genuine w c g)
 
+-- EVERY REACHED STORE IS GENUINE
 pub reached-genuine : (w : List ℕ) → ReachedWords w → Genuine w
 reached-genuine w r = rw (r .is) (run-genuine (freshStore (r .found)) (r .calls) (fresh-genuine (r .found) (r .long)))
 
 -- a store reached by more calls is reached
-pub run-more : (w : List ℕ) (cs ds : List Call) → run (run w cs) ds ≡ run w (cs ++ ds)
+run-more : (w : List ℕ) (cs ds : List Call) → run (run w cs) ds ≡ run w (cs ++ ds)
 unfolding run
 run-more w [] ds = refl
 run-more w (c ∷ cs) ds = run-more (leftBy w c) cs ds

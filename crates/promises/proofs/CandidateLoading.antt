@@ -23,12 +23,11 @@ use Rattle.requirement.specs.declared.Loaded.the-variants.{Done, Refused}
 use Rattle.requirement.specs.declared.Requirement.the-variants.{Single, Union}
 use Rattle.rules.specs.Store.{Reached, loads, then}
 use Rattle.store.proofs.AreaLaws.{at-same}
-use Rattle.store.proofs.Choice.{both, eq-or}
+use Rattle.store.proofs.Choice.{both, eq-or, cond-either}
 use Rattle.store.specs.Area.{at}
 use Rattle.store.specs.Layout.{setNames, singleCells, tablesLoaded, unionCells, unionSizes}
 use Rattle.store.specs.Limits.{unions, versionSets}
 use Rattle.store.specs.Shape.{Sound, soundShape, unionsFrom}
-use Rattle.tables.proofs.BesideTables.{cond-either}
 
 -- a requirement that is known is a single's version set or a union that is loaded
 module _ (w : List ℕ) (kind id : ℕ) (e : known w kind id ≡ true) where
@@ -105,7 +104,7 @@ module _ (w : List ℕ) (kind id : ℕ) (lengths cells : List ℕ) (sound : Soun
       ∙ ap (λ ls. getD ls j []) e
       ∙ list-read w (firstSlot other) (listCount w other) j h
 
-  candidates-stay : Stays after w
+  pub candidates-stay : Stays after w
   candidates-stay =
       record {
         beside = load-kept w kind id lengths cells sound;
@@ -120,6 +119,7 @@ module _ (w : List ℕ) (kind id : ℕ) (lengths cells : List ℕ) (sound : Soun
         literals = literals-untouched after w (load-tables w kind id lengths cells sound literalsRegion tt);
       }
 
+-- LOADING CANDIDATES: done, it is that step; a refusal leaves the words as they are
 pub load-candidates-genuine : (w : List ℕ) (kind id : ℕ) (lengths cells : List ℕ) → Genuine w → Genuine (loadStore w kind id lengths cells)
 unfolding loadStore
 load-candidates-genuine w kind id lengths cells g =
@@ -132,5 +132,5 @@ load-candidates-genuine w kind id lengths cells g =
         let stays = candidates-stay w kind id lengths cells (g .sound) e in
         let step = loads key (listsAt s key) (no-lists w key (done-taken w kind id lengths cells e .new)) in
         genuine-stays s w g (load-sound w kind id lengths cells (g .sound)) stays
-        (subst Reached (sym (store-loaded s w stays (g .rooted) key (marks-else w kind id lengths cells (g .sound) e))) (then (g .reached) step))
+        (subst Reached (sym (store-loaded s w stays (g .all-loaded) key (marks-else w kind id lengths cells (g .sound) e))) (then (g .reached) step))
     go (Refused n) e = subst Genuine (sym (refused-leaves w kind id lengths cells n e)) g

@@ -6,7 +6,7 @@ use Prim.Native.Nat.{ℕ}
 use lib.Dec.{eqb}
 use Rattle.evaluate.specs.Standing.{envOf, queueOf, storeOf}
 use Rattle.promises.proofs.Calling.{reached-genuine, reached-on, reached-sound}
-use Rattle.promises.specs.Calls.{Call, ReachedWords, run}
+use Rattle.imbolaverk.specs.Calls.{Call, ReachedWords, run}
 use Rattle.promises.specs.Six.{SameButMode, SameClauses, SameSix, undropped}
 use Rattle.proposal.proofs.Answers.{proposal-is, synced-store}
 use Rattle.proposal.specs.Propose.{answer, proposalOut, told, unsynced}
@@ -15,7 +15,6 @@ use Rattle.rules.specs.Invariant.{Holds}
 use Rattle.rules.specs.Walk.{Environment, mode, walk}
 use Rattle.store.specs.Limits.{names}
 use Rattle.evaluate.specs.View.{assigned}
-use Rattle.proposal.specs.declared.Proposal.the-variants.{Refused}
 use Rattle.rules.specs.declared.Out.{Out}
 use Rattle.rules.specs.declared.Out.the-variants.{Nothing, Dead as DeadClause, Choose}
 use Rattle.trail.specs.declared.Value.{Value}
@@ -32,13 +31,8 @@ pub demand2 : (w : List ℕ) → ReachedWords w → unsynced w ≡ false → pro
 unfolding proposalOut
 demand2 w r u = rw (reached-sound w r, u) (proposal-is w (reached-genuine w r .sound) (reached-holds w r u))
 
--- an unsynced one is refused by 7
-pub unsynced-refused : (w : List ℕ) → ReachedWords w → unsynced w ≡ true → proposalOut w ≡ Refused 7
-unfolding proposalOut
-unsynced-refused w r u = rw (reached-sound w r, u)
-
 -- two stores that have all but the mode in common have one environment, but for the mode
-pub env-but-mode : (w u : List ℕ) → SameButMode w u → envOf w ≡ mode (envOf u) ((envOf w) .standard)
+env-but-mode : (w u : List ℕ) → SameButMode w u → envOf w ≡ mode (envOf u) ((envOf w) .standard)
 env-but-mode w u s =
     λ i.
     record {

@@ -9,15 +9,15 @@ use lib.ListN.{drop, getD, length, length-replicate, replicate}
 use Rattle.promises.proofs.Calling.{run-genuine}
 use Rattle.promises.proofs.Genuine.{Genuine}
 use Rattle.promises.proofs.Starting.{fresh-genuine}
-use Rattle.promises.specs.Calls.{Call, leftBy, numberOf, run, valuesOf}
+use Rattle.imbolaverk.specs.Calls.{Call, leftBy, numberOf, run, valuesOf}
 use Rattle.promises.specs.Scripts.{Line, answers, calls, expected, p1, p2, p3, p4, p5, p6, p7, p8, p9, p10, p11, p12, scripts, start}
 use Rattle.store.specs.Layout.{words}
 use Rattle.clauses.specs.Names.{otherName, newName, nameCount, newNames, distinctNames}
 use Rattle.clauses.specs.Record.{behindLast}
 use Rattle.clauses.specs.Register.{knownCondition, conditionWord, literalCountOf, allNamed, hasRoom, registerIn, queuedMark, recordIn, registered}
 use Rattle.conditions.specs.Dnf.{behind, cross, nodeTerms, dnf, linked}
-use Rattle.conditions.specs.Rewrite.{lengthsOf, joined, tooMuch, rewriteIn, over, rewriteInLengths, rewriteInCells}
-use Rattle.evaluate.specs.Standing.{ofClause, memoBy, memoOf, markOf}
+use Rattle.conditions.specs.Rewrite.{tooMuch, rewriteIn, rewriteInLengths, rewriteInCells}
+use Rattle.evaluate.specs.Standing.{ofClause, cacheBy, cacheOf, markOf}
 use Rattle.evaluate.specs.View.{assigned, from, listAt, listsAt, literalAt, literalsAt}
 use Rattle.examine.specs.Cache.{cached, saved, seenAt, filled}
 use Rattle.promises.proofs.Stepping.{Ran, proposed, ran, run-is, runIn, stepIn}
@@ -33,6 +33,7 @@ use Rattle.settings.specs.Activity.{good, admitted}
 use Rattle.settings.specs.Settings.{hotIn, hotInStore, activityWith, quiet, activityOn, activityOnStore, activityIn, activityInStore}
 use Rattle.store.specs.Area.{area, at, put, putRun, blank}
 use Rattle.store.specs.Fresh.{freshStore, freshWords}
+use Rattle.store.specs.Lent.{lengthsOf, joined, over}
 use Rattle.store.specs.Numbers.{allFrom}
 use Rattle.store.specs.Ranks.{moved, inserted}
 use Rattle.store.specs.Shape.{every}
@@ -44,9 +45,9 @@ use Rattle.tables.specs.Disjunction.{literalsOf}
 use Rattle.tables.specs.VersionSet.{loadVersionSetIn}
 use Rattle.trail.specs.Assign.{assignOn, assignIn, pushed}
 use Rattle.trail.specs.Cell.{cellValue, cellSide, cellLevel, cellOf}
-use Rattle.trail.specs.Entries.{decisionAt, levelAt, lastLevelOf, entryAbove}
+use Rattle.trail.specs.Entries.{decisionAt, levelAt, levelOfLast, entryAbove}
 use Rattle.trail.specs.Look.{valueIn}
-use Rattle.trail.specs.UndoLast.{least, popped, undoLastIn, undoLastInStore}
+use Rattle.trail.specs.UndoLast.{popped, undoLastIn, undoLastInStore}
 use Rattle.trail.specs.UndoUntil.{poppedTo, cleared, noStop, undoUntilIn, undoUntilInStore}
 use lib.Ieee.{odd, ofFields, ofBits, toBits, size, climb, span}
 
@@ -125,7 +126,7 @@ unfoldable onwardOf : Ran → List (List (List ℕ))
 onwardOf r = r .said ∷ eachIn (r .left) onward
 
 computed : (eachIn first alone ≡ map expected alone) × (onwardOf third ≡ map expected (p3 ∷ onward))
-unfolding otherName newName nameCount newNames distinctNames behindLast knownCondition conditionWord literalCountOf allNamed hasRoom registerIn queuedMark recordIn registered behind cross nodeTerms dnf linked lengthsOf joined tooMuch rewriteIn over rewriteInLengths rewriteInCells ofClause memoBy memoOf markOf assigned from listAt listsAt literalAt literalsAt cached saved seenAt filled proposed runIn stepIn answer unsynced tabled adds known fitting loadIn putLists tableAt loadedSingle loadedUnion tableMade requirementOf firstSlot setCount listCount setOf cellsOf seen queuedOn queuedFrom touches meets member allFalse flattened firstTrue firstUndecided countUndecided frontier evaluate largest anyHot ranksFrom good admitted hotIn hotInStore activityWith quiet activityOn activityOnStore activityIn activityInStore area at put putRun blank freshWords allFrom moved inserted every sweep wordsFrom oldEntries newEntries touchedIn touchesIn wakesAt spoilsAt wokenWords spoiledWords sweptWords copiedWords mirroredWords syncInStore loaded leafIn branchIn loadConditionIn leafed branched nodePut literalsOf loadVersionSetIn assignOn assignIn pushed cellValue cellSide cellLevel cellOf decisionAt levelAt lastLevelOf entryAbove valueIn least popped undoLastIn undoLastInStore poppedTo cleared noStop undoUntilIn undoUntilInStore odd ofFields ofBits toBits size climb span onwardOf
+unfolding otherName newName nameCount newNames distinctNames behindLast knownCondition conditionWord literalCountOf allNamed hasRoom registerIn queuedMark recordIn registered behind cross nodeTerms dnf linked lengthsOf joined tooMuch rewriteIn over rewriteInLengths rewriteInCells ofClause cacheBy cacheOf markOf assigned from listAt listsAt literalAt literalsAt cached saved seenAt filled proposed runIn stepIn answer unsynced tabled adds known fitting loadIn putLists tableAt loadedSingle loadedUnion tableMade requirementOf firstSlot setCount listCount setOf cellsOf seen queuedOn queuedFrom touches meets member allFalse flattened firstTrue firstUndecided countUndecided frontier evaluate largest anyHot ranksFrom good admitted hotIn hotInStore activityWith quiet activityOn activityOnStore activityIn activityInStore area at put putRun blank freshWords allFrom moved inserted every sweep wordsFrom oldEntries newEntries touchedIn touchesIn wakesAt spoilsAt wokenWords spoiledWords sweptWords copiedWords mirroredWords syncInStore loaded leafIn branchIn loadConditionIn leafed branched nodePut literalsOf loadVersionSetIn assignOn assignIn pushed cellValue cellSide cellLevel cellOf decisionAt levelAt levelOfLast entryAbove valueIn popped undoLastIn undoLastInStore poppedTo cleared noStop undoUntilIn undoUntilInStore odd ofFields ofBits toBits size climb span onwardOf
 computed = (refl, refl)
 
 alone-say : each start alone ≡ map expected alone

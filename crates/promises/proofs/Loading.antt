@@ -15,14 +15,14 @@ use Rattle.promises.proofs.Stays.{LiteralsStay, SetsStay, Stays, elsewh
 use Rattle.requirement.proofs.Kept.{tableRegion}
 use Rattle.rules.specs.Store.{Reached}
 use Rattle.store.proofs.AreaLaws.{apart-inside, area-kept, area-puts, at-kept, at-put-else, at-puts, at-puts-here, at-same, clear-outside}
-use Rattle.store.proofs.Choice.{eq-or, lt-or}
+use Rattle.store.proofs.Choice.{eq-or, lt-or, cond-either}
 use Rattle.store.proofs.Counting.{every-at}
 use Rattle.store.proofs.Runs.{area-run-kept, at-run-before, at-run-behind, at-run-kept}
 use Rattle.store.specs.Area.{Area, Inside, Write, apart, area, at, put, putRun, puts, write}
 use Rattle.store.specs.Layout.{disjunctionSizes, disjunctionStarts, literalCount, literalSigns, literalVariables, nodeKinds, nodeRights, region, setNames, tablesLoaded, unionSets, unionSizes}
 use Rattle.store.specs.Limits.{disjunctions, literalRoom, mostUnionSize, names, unionRoom, unions, versionSets}
 use Rattle.store.specs.Shape.{Sound, every, soundShape}
-use Rattle.tables.proofs.BesideTables.{Beside, cond-either}
+use Rattle.tables.proofs.BesideTables.{Beside}
 use Rattle.tables.proofs.ConditionLoading.{done-branch, done-leaf}
 use Rattle.tables.proofs.DisjunctionLoading.{LiteralsFit, literals-fit}
 use Rattle.tables.proofs.Kept.{load-condition-kept, load-condition-sound, load-disjunction-kept, load-disjunction-sound, load-union-kept, load-union-sound, load-version-set-kept, load-version-set-sound}
@@ -39,12 +39,12 @@ use Rattle.tables.specs.declared.Loaded.{Loaded}
 use Rattle.tables.specs.declared.Loaded.the-variants.{Done}
 
 -- what is loaded stays, and the candidate tables are the same
-record Untabled (s w : List ℕ) : Type 0 where
+pub record Untabled (s w : List ℕ) : Type 0 where
   pub sets : SetsStay s w
   pub tables : area tableRegion s ≡ area tableRegion w
   pub literals : LiteralsStay s w
 
-untabled-none : (w : List ℕ) → Untabled w w
+pub untabled-none : (w : List ℕ) → Untabled w w
 untabled-none w = record { sets = sets-untouched w w refl; tables = refl; literals = literals-untouched w w refl }
 
 -- a call that loads no table leaves the store as it was
@@ -52,7 +52,7 @@ genuine-untabled : (s w : List ℕ) → Genuine w → Sound s → Beside s w →
 genuine-untabled s w g sound beside u =
     let stays : Stays s w = record { beside = beside; sets = u .sets; tables = tables-untouched s w (u .tables); literals = u .literals } in
     genuine-stays s w g sound stays
-    (subst Reached (sym (store-same s w stays (g .rooted) (λ key. at-same tablesLoaded tableRegion s w tt (u .tables) key))) (g .reached))
+    (subst Reached (sym (store-same s w stays (g .all-loaded) (λ key. at-same tablesLoaded tableRegion s w tt (u .tables) key))) (g .reached))
 
 -- and the literals that were there
 loading-literals : (w : List ℕ) (r : Loaded) (made : List ℕ) → (r ≡ Done → Untabled made w) → LiteralsStay (leaves r made w) w
@@ -78,7 +78,7 @@ module _ (w : List ℕ) (versionSet name : ℕ) where
       let a = passed (leb versionSets versionSet || leb names name) _ _ e in
       unloaded setNames w versionSet (passed (setLoaded w versionSet) _ _ (a .1) .0)
 
-  set-untabled : loadVersionSetIn w versionSet name ≡ Done → Untabled (named w versionSet name) w
+  pub set-untabled : loadVersionSetIn w versionSet name ≡ Done → Untabled (named w versionSet name) w
   set-untabled e =
       record {
         sets =
@@ -158,7 +158,7 @@ module _ (w : List ℕ) (union : ℕ) (members : List ℕ) where
         let named = every-at (setLoaded w) members (fits .named) j l in
         rw (← made, member-reads w union members sound done j l) (omega (arith, ltb-true 0 (at setNames (getD members j 0) w) named))
 
-    union-untabled : Untabled (membersPut w union members) w
+    pub union-untabled : Untabled (membersPut w union members) w
     union-untabled =
         record {
           sets =
@@ -271,7 +271,7 @@ module _ (w : List ℕ) (disjunction : ℕ) (vs signs : List ℕ) where
         let e : literalsOf (literalsPut w disjunction vs signs) disjunction ≡ record { start = start; count = length vs } = rw made at (literals-read w disjunction vs signs sound done) in
         rw (ap (λ l. l .start) e, ap (λ l. l .count) e, count-read) (omega arith)
 
-    literals-untabled : Untabled (literalsPut w disjunction vs signs) w
+    pub literals-untabled : Untabled (literalsPut w disjunction vs signs) w
     literals-untabled =
         record {
           sets = sets-untouched (literalsPut w disjunction vs signs) w (literals-still setsRegion tt);
@@ -317,7 +317,7 @@ module _ (w : List ℕ) (node kind left right : ℕ) where
       let small = done-branch w node kind left right e (eqb-false kind 0 z) .node< in
       area-puts a (branchWrites node kind left right) w (clear-outside a nodesRegion (branchWrites node kind left right) t tt) (small, (small, (small, tt))))
 
-  node-untabled : loadConditionIn w node kind left right ≡ Done → Untabled (nodePut w node kind left right) w
+  pub node-untabled : loadConditionIn w node kind left right ≡ Done → Untabled (nodePut w node kind left right) w
   node-untabled e =
       record {
         sets = sets-untouched (nodePut w node kind left right) w (node-still e setsRegion tt);

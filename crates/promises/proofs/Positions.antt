@@ -1,121 +1,69 @@
 -- POSITION ORDER FOR THE WORDS: the clauses of words that calls reach are, rank by rank, the registered ones by position. Assumes nothing.
 use mathlib.Core.Bool.{Bool, true, false, cond}
 use mathlib.Core.List.{List, [], _∷_, map}
-use mathlib.Core.Path.{_≡_, refl, ap, _∙_, fun-ext}
-use Prim.Native.Nat.{ℕ, suc, _≤_}
+use mathlib.Core.Logic.{⊎-elim}
+use mathlib.Core.Path.{_≡_, refl, sym, ap, subst, _∙_, fun-ext}
+use Prim.Native.Nat.{ℕ, _≤_, _<_}
 use borrow.Author.Tests.{le-leb}
 use lib.ListN.{length}
 use Rattle.clauses.proofs.Registers.{done-placed}
 use Rattle.clauses.specs.Register.{Placed, conditionWord, registerIn, registerInStore, registerLeft, registerOut, registerStore, registered}
-use Rattle.evaluate.specs.Standing.{envOf, storeOf}
+use Rattle.evaluate.proofs.Records.{clause-none}
+use Rattle.evaluate.specs.Standing.{envOf, ofClause, storeOf}
 use Rattle.evaluate.specs.View.{literalsAt}
 use Rattle.promises.proofs.Calling.{call-genuine}
 use Rattle.promises.proofs.Clauses.{assign-clauses, load-candidates-clauses, load-condition-clauses, load-disjunction-clauses, load-union-clauses, load-version-set-clauses, mark-hot-clauses, next-clauses, propose-clauses, set-activity-clauses, set-mode-clauses, sync-clauses, undo-last-clauses, undo-until-clauses}
 use Rattle.promises.proofs.Genuine.{Genuine}
 use Rattle.promises.proofs.Registering.{register-is}
 use Rattle.promises.proofs.Starting.{fresh-genuine, fresh-is}
-use Rattle.promises.specs.Calls.{Call, fresh, load-version-set, load-union, load-candidates, load-disjunction, load-condition, register, mark-hot, set-activity, set-mode, assign, undo-last, undo-until, next-unpropagated, sync, propose, value-of, clause-of, trail-length, copy-trail, copy-candidates, rewrite, disjunct-holds, settings, name-of, leftBy, run}
-use Rattle.promises.specs.History.{filing, filings, ifMade, ifRegistered}
+use Rattle.imbolaverk.specs.Calls.{Call, fresh, load-version-set, load-union, load-candidates, load-disjunction, load-condition, register, mark-hot, set-activity, set-mode, assign, undo-last, undo-until, next-unpropagated, sync, propose, value-of, clause-of, trail-length, copy-trail, copy-candidates, rewrite, disjunct-holds, settings, name-of, ReachedWords, leftBy, run}
+use Rattle.promises.specs.History.{filing, filings, historyOf, ifMade, ifRegistered}
 use Rattle.promises.specs.Six.{SameClauses}
 use Rattle.requirement.specs.Tables.{keyAt}
-use Rattle.rules.proofs.Placing.{reached-position}
-use Rattle.rules.specs.Position.{History, InPosition, after, filed, history, noHistory}
-use Rattle.rules.specs.Store.{Reached, Store, fresh as begins, inserted, rank, registered as registers-in, registers, then}
-use Rattle.rules.specs.Walk.{Environment, Literal, ranks}
+use Rattle.rules.proofs.Ranks.{at-rank}
+use Rattle.rules.proofs.Placing.{fresh-position, register-position}
+use Rattle.rules.specs.Position.{History, InPosition, SameHistory, filed, noHistory}
+use Rattle.rules.specs.Store.{Store}
+use Rattle.rules.specs.Walk.{ranks}
+use Rattle.store.proofs.Choice.{lt-or}
+use Rattle.store.specs.Area.{Area, at}
 use Rattle.store.specs.Fresh.{freshOut, freshStore}
-use Rattle.store.specs.Layout.{words}
+use Rattle.store.specs.Layout.{clauseConditions, clauseCount, clauseIds, clauseParents, clauseRequirements, words}
 use Rattle.store.specs.Shape.{soundShape}
 use Rattle.clauses.specs.declared.Registered.{Registered}
 use Rattle.clauses.specs.declared.Registered.the-variants.{Done, Refused}
 
--- the same clauses in two environments
-record Alike (e f : Environment) : Type 0 where
-  sizes : e .size ≡ f .size
-  parents : e .parent ≡ f .parent
-  requirements : e .requirement ≡ f .requirement
-  conditions : e .condition ≡ f .condition
-  ids : e .clauseId ≡ f .clauseId
-
-alike-position : (e f : Environment) (h : History) → Alike e f → InPosition f h → InPosition e h
-alike-position e f h a p =
-    record {
-      size-is = a .sizes ∙ p .size-is;
-      parents-are = (λ i. map (a .parents i) (ranks (a .sizes i))) ∙ p .parents-are;
-      requirements-are = (λ i. map (a .requirements i) (ranks (a .sizes i))) ∙ p .requirements-are;
-      conditions-are = (λ i. map (a .conditions i) (ranks (a .sizes i))) ∙ p .conditions-are;
-      clauseIds-are = (λ i. map (a .ids i) (ranks (a .sizes i))) ∙ p .clauseIds-are;
-    }
-
--- WORDS FOLLOW A HISTORY if their clauses are those of a store that document 01 reaches with it
-record Follows (w : List ℕ) (h : History) : Type 0 where
-  store : Store
-  reached : Reached store
-  told : history store reached ≡ h
-  alike : Alike (envOf w) (store .env)
-
-follows-position : (w : List ℕ) (h : History) → Follows w h → InPosition (envOf w) h
-follows-position w h f = alike-position (envOf w) (f .store .env) h (f .alike) (rw (← f .told) (reached-position (f .store) (f .reached)))
+-- WORDS FOLLOW A HISTORY if their clauses are, rank by rank, the registered ones by position
+abbrev Follows : List ℕ → History → Type 0
+Follows w h = InPosition (envOf w) h
 
 -- a call that keeps the clauses
 stays : (s w : List ℕ) (h : History) → SameClauses s w → Follows w h → Follows s h
-stays s w h c f =
+stays s w h c p =
     record {
-      store = f .store;
-      reached = f .reached;
-      told = f .told;
-      alike =
-          record {
-            sizes = c .counts ∙ f .alike .sizes;
-            parents = fun-ext (c .parents) ∙ f .alike .parents;
-            requirements = fun-ext (c .requirements-same) ∙ f .alike .requirements;
-            conditions = fun-ext (c .conditions) ∙ f .alike .conditions;
-            ids = fun-ext (c .ids) ∙ f .alike .ids;
-          };
+      size-is = c .counts ∙ p .size-is;
+      parents-are = (λ i. map (fun-ext (c .parents) i) (ranks (c .counts i))) ∙ p .parents-are;
+      requirements-are = (λ i. map (fun-ext (c .requirements-same) i) (ranks (c .counts i))) ∙ p .requirements-are;
+      conditions-are = (λ i. map (fun-ext (c .conditions) i) (ranks (c .counts i))) ∙ p .conditions-are;
+      clauseIds-are = (λ i. map (fun-ext (c .ids) i) (ranks (c .counts i))) ∙ p .clauseIds-are;
     }
 
 -- a fresh store
 module _ (w : List ℕ) (long : words ≤ length w) where
   begins-follows : Follows (freshStore w) noHistory
-  unfolding history
-  begins-follows =
-      record {
-        store = storeOf (freshStore w);
-        reached = begins (fresh-is w long);
-        told = refl;
-        alike = record { sizes = refl; parents = refl; requirements = refl; conditions = refl; ids = refl };
-      }
+  begins-follows = fresh-position (storeOf (freshStore w)) (fresh-is w long)
 
   fresh-follows : (h : History) → Follows (freshStore w) (ifMade (freshOut w) noHistory h)
   unfolding freshOut
   fresh-follows h = rw (le-leb words (length w) long) begins-follows
 
--- a registration
+-- a registration is document 01's, which keeps the position order
 module _ (w : List ℕ) (parent key condition clause : ℕ) (h : History) (g : Genuine w) (f : Follows w h) where
-  abbrev literals : List Literal
-  literals = literalsAt w (conditionWord condition)
-
-  abbrev place : Environment → ℕ
-  place e = rank (e .parent) parent (e .size)
-
-  registered-follows : Placed w parent key condition → Follows (registered w parent key condition clause) (filed h parent key literals clause)
-  unfolding history after
+  registered-follows : Placed w parent key condition → Follows (registered w parent key condition clause) (filed h parent key (literalsAt w (conditionWord condition)) clause)
   registered-follows p =
-      let made = register-is w parent key condition clause p (g .sound) (g .mapped) in
-      let a = f .alike in
-      let at-place : place (envOf w) ≡ place (f .store .env) = λ i. rank (a .parents i) parent (a .sizes i) in
-      record {
-        store = registers-in (f .store) parent key literals clause;
-        reached = then (f .reached) (registers parent key literals clause);
-        told = ap (λ (x : History). filed x parent key literals clause) (f .told);
-        alike =
-            record {
-              sizes = ap (λ (t : Store). t .env .size) made ∙ ap suc (a .sizes);
-              parents = ap (λ (t : Store). t .env .parent) made ∙ (λ i. inserted (a .parents i) (at-place i) parent);
-              requirements = ap (λ (t : Store). t .env .requirement) made ∙ (λ i. inserted (a .requirements i) (at-place i) key);
-              conditions = ap (λ (t : Store). t .env .condition) made ∙ (λ i. inserted (a .conditions i) (at-place i) literals);
-              ids = ap (λ (t : Store). t .env .clauseId) made ∙ (λ i. inserted (a .ids i) (at-place i) clause);
-            };
-      }
+      let literals = literalsAt w (conditionWord condition) in
+      subst (λ (t : Store). InPosition (t .env) (filed h parent key literals clause)) (sym (register-is w parent key condition clause p (g .sound) (g .mapped)))
+      (register-position (storeOf w) h parent key literals clause f)
 
 register-follows : (w : List ℕ) (parent kind requirement condition clause : ℕ) (h : History) → Genuine w → Follows w h →
     Follows (registerStore w parent kind requirement condition clause) (ifRegistered (registerOut w parent kind requirement condition) (filed h parent (keyAt kind requirement) (literalsAt w (conditionWord condition)) clause) h)
@@ -135,7 +83,7 @@ register-follows w parent kind requirement condition clause h g f = go (soundSha
 
 -- every call
 call-follows : (w : List ℕ) (c : Call) (h : History) → Genuine w → Follows w h → Follows (leftBy w c) (filing w c h)
-unfolding leftBy filing
+unfolding filing
 call-follows w fresh h g f = fresh-follows w (g .sound .long) h
 call-follows w (load-version-set set name) h g f = stays _ w h (load-version-set-clauses w g set name) f
 call-follows w (load-union union members) h g f = stays _ w h (load-union-clauses w g union members) f
@@ -169,7 +117,40 @@ run-follows w (c ∷ cs) h g f = run-follows (leftBy w c) cs (filing w c h) (cal
 
 -- "A clause's position is its parent's number and then its own number under that parent; parents are numbered by their first
 -- registration": after any calls the clauses, rank by rank, are the registered ones by position
-pub position-order : (found : List ℕ) → words ≤ length found → (calls : List Call) → InPosition (envOf (run (freshStore found) calls)) (filings (freshStore found) calls noHistory)
-position-order found long calls =
-    follows-position (run (freshStore found) calls) (filings (freshStore found) calls noHistory)
-    (run-follows (freshStore found) calls noHistory (fresh-genuine found long) (begins-follows found long))
+pub position-order : (w : List ℕ) (r : ReachedWords w) → InPosition (envOf w) (historyOf w r)
+position-order w r =
+    let made = freshStore (r .found) in
+    subst (λ (v : List ℕ). InPosition (envOf v) (historyOf w r)) (sym (r .is))
+    (run-follows made (r .calls) noHistory (fresh-genuine (r .found) (r .long)) (begins-follows (r .found) (r .long)))
+
+-- however the registrations were interleaved: calls that filed the same clauses by position left the same clauses
+module _ (w u : List ℕ) (r : ReachedWords w) (q : ReachedWords u) (h : SameHistory (historyOf w r) (historyOf u q)) where
+  here : InPosition (envOf w) (historyOf w r)
+  here = position-order w r
+
+  there : InPosition (envOf u) (historyOf u q)
+  there = position-order u q
+
+  counted : at clauseCount 0 w ≡ at clauseCount 0 u
+  counted = here .size-is ∙ h .count-same ∙ sym (there .size-is)
+
+  by-rank : {A : Type 0} (f g : ℕ → A) → map f (ranks (at clauseCount 0 w)) ≡ map g (ranks (at clauseCount 0 u)) → ((k : ℕ) → at clauseCount 0 w ≤ k → f k ≡ g k) → (k : ℕ) → f k ≡ g k
+  by-rank f g e none k =
+      ⊎-elim (λ (l : k < at clauseCount 0 w). at-rank f g (at clauseCount 0 w) k (e ∙ ap (λ (n : ℕ). map g (ranks n)) (sym counted)) l)
+      (λ (l : at clauseCount 0 w ≤ k). none k l) (lt-or k (at clauseCount 0 w))
+
+  none-there : (a : Area) (k : ℕ) → at clauseCount 0 w ≤ k → ofClause a w k ≡ ofClause a u k
+  none-there a k l = clause-none a w k l ∙ sym (clause-none a u k (rw counted at l))
+
+  pub same-positions : SameClauses w u
+  unfolding literalsAt
+  same-positions =
+      record {
+        counts = counted;
+        parents = by-rank _ _ (here .parents-are ∙ h .parents-same ∙ sym (there .parents-are)) (none-there clauseParents);
+        requirements-same = by-rank _ _ (here .requirements-are ∙ h .requirements-same ∙ sym (there .requirements-are)) (none-there clauseRequirements);
+        conditions =
+            by-rank _ _ (here .conditions-are ∙ h .conditions-same ∙ sym (there .conditions-are))
+            (λ k l. rw (clause-none clauseConditions w k l, clause-none clauseConditions u k (rw counted at l)));
+        ids = by-rank _ _ (here .clauseIds-are ∙ h .clauseIds-same ∙ sym (there .clauseIds-are)) (none-there clauseIds);
+      }

@@ -15,15 +15,16 @@ use Rattle.clauses.proofs.ReadBack.{Shifted, shifted-each, parent-shifted, requ
 use Rattle.clauses.proofs.Registers.{done-placed, left-either}
 use Rattle.clauses.specs.Record.{behindLast, rankOf}
 use Rattle.clauses.specs.Register.{knownCondition, conditionWord, Placed, queuedMark, registered, registerInStore, registerStore}
-use Rattle.evaluate.proofs.Frames.{cachesRegion, lists-same, literals-same, memo-same, mirror-same, trail-same}
-use Rattle.evaluate.specs.Standing.{markOf, memoOf, ofClause, storeOf, trailOf}
+use Rattle.evaluate.proofs.Frames.{cachesRegion, lists-same, literals-same, cache-same, mirror-same, trail-same}
+use Rattle.evaluate.proofs.Records.{clause-word, clause-none}
+use Rattle.evaluate.specs.Standing.{markOf, ofClause, storeOf, trailOf}
 use Rattle.evaluate.specs.View.{assigned, literalsAt}
-use Rattle.promises.proofs.Genuine.{Genuine, Mapped, Rooted, mapped-frame, rooted-by-tables}
+use Rattle.promises.proofs.Genuine.{Genuine, Mapped, AllLoaded, mapped-frame, all-loaded-by-tables}
 use Rattle.requirement.specs.Tables.{keyAt}
 use Rattle.rules.proofs.Demand.{inserted-above, inserted-at, inserted-below}
 use Rattle.rules.specs.Store.{Reached, behind, inserted, rank, registered as registers-in, registers, then}
 use Rattle.rules.specs.Sync.{value}
-use Rattle.rules.specs.Walk.{Literal, isTrue}
+use Rattle.rules.specs.Walk.{isTrue}
 use Rattle.store.proofs.AreaLaws.{at-same, within}
 use Rattle.store.proofs.Choice.{eq-or, lt-or}
 use Rattle.store.specs.Area.{Area, apart, area, at}
@@ -31,40 +32,29 @@ use Rattle.store.specs.Layout.{activities, clauseConditions, clauseCount, claus
 use Rattle.store.specs.Limits.{lastLevel, lastWord, names}
 use Rattle.store.specs.Shape.{Sound, soundShape}
 use Rattle.tables.specs.Answer.{loaded}
-use Rattle.tables.specs.Disjunction.{disjunctionLoaded}
 use Rattle.trail.specs.Cell.{cellSide, cellValue}
 use Rattle.trail.specs.declared.Value.the-variants.{False, True, Undecided}
-
--- a word of a clause that there is, and of one that there is not
-module _ (a : Area) (w : List ℕ) (k : ℕ) where
-  of-clause : k < at clauseCount 0 w → ofClause a w k ≡ at a k w
-  unfolding ofClause
-  of-clause h = rw (lt-ltb k (at clauseCount 0 w) h)
-
-  of-none : at clauseCount 0 w ≤ k → ofClause a w k ≡ 0
-  unfolding ofClause
-  of-none h = rw (le-ltb k (at clauseCount 0 w) h)
 
 -- the words' rank is the rules' rank
 ranks-agree : (w : List ℕ) (parent n k : ℕ) → k ≤ at clauseCount 0 w → behindLast w parent n k ≡ behind (ofClause clauseParents w) parent k n
 unfolding behindLast behind
 ranks-agree w parent n zero h = refl
-ranks-agree w parent n (suc k) h = rw (of-clause clauseParents w k (omega arith), ranks-agree w parent n k (omega arith))
+ranks-agree w parent n (suc k) h = rw (clause-word clauseParents w k (omega arith), ranks-agree w parent n k (omega arith))
 
 -- THE LAW OF THE FIVE AREAS: a word put in at a rank is a clause inserted there
 clause-inserted : (a : Area) (r x : ℕ) (s w : List ℕ) → r ≤ at clauseCount 0 w → at clauseCount 0 s ≡ at clauseCount 0 w + 1 → Shifted a r (at clauseCount 0 w) x s w → (k : ℕ) → ofClause a s k ≡ inserted (ofClause a w) r x k
 clause-inserted a r x s w low more h k =
     ⊎-elim
-    (λ (l : at clauseCount 0 w < k). of-none a s k (omega arith) ∙ sym (above k (omega arith) ∙ of-none a w (k - 1) (omega arith)))
+    (λ (l : at clauseCount 0 w < k). clause-none a s k (omega arith) ∙ sym (above k (omega arith) ∙ clause-none a w (k - 1) (omega arith)))
     (λ (l : k ≤ at clauseCount 0 w).
-    of-clause a s k (omega arith) ∙ shifted-each (λ j y. y ≡ inserted (ofClause a w) r x j) a r (at clauseCount 0 w) x s w h front here back k l)
+    clause-word a s k (omega arith) ∙ shifted-each (λ j y. y ≡ inserted (ofClause a w) r x j) a r (at clauseCount 0 w) x s w h front here back k l)
     (lt-or (at clauseCount 0 w) k)
   where
     above : (j : ℕ) → r < j → inserted (ofClause a w) r x j ≡ ofClause a w (j - 1)
     above j m = inserted-above (ofClause a w) r x j (le-ltb j r (omega arith)) (ne-eqb j r (omega arith))
 
     front : (j : ℕ) → j < r → at a j w ≡ inserted (ofClause a w) r x j
-    front j m = sym (inserted-below (ofClause a w) r x j (lt-ltb j r m) ∙ of-clause a w j (omega arith))
+    front j m = sym (inserted-below (ofClause a w) r x j (lt-ltb j r m) ∙ clause-word a w j (omega arith))
 
     here : x ≡ inserted (ofClause a w) r x r
     here = sym (inserted-at (ofClause a w) r x r (le-ltb r r (omega arith)) (eq-eqb r r refl))
@@ -72,7 +62,7 @@ clause-inserted a r x s w low more h k =
     back : (j : ℕ) → r ≤ j → j < at clauseCount 0 w → at a j w ≡ inserted (ofClause a w) r x (j + 1)
     back j m n =
         let z : j + 1 - 1 ≡ j = omega arith in
-        sym (above (j + 1) (omega arith) ∙ ap (ofClause a w) z ∙ of-clause a w j n)
+        sym (above (j + 1) (omega arith) ∙ ap (ofClause a w) z ∙ clause-word a w j n)
 
 -- what is made of each word is inserted where the word is
 inserted-map : {A B : Type 0} (g : A → B) (f : ℕ → A) (i : ℕ) (x : A) (k : ℕ) → g (inserted f i x k) ≡ inserted (λ j. g (f j)) i (g x) k
@@ -161,13 +151,13 @@ module _ (w : List ℕ) (parent key condition clause : ℕ) (p : Placed w parent
         trail = trail-same left w (kept trailRegion tt tt) i;
         mirror = mirror-same left w (kept mirrorRegion tt tt) i;
         floor = at-same syncFloor trailRegion left w tt (kept trailRegion tt tt) 0 i;
-        queue = record { mark = fun-ext (marks-inserted m) i; memo = fun-ext (memo-same left w (kept cachesRegion tt tt)) i };
+        queue = record { mark = fun-ext (marks-inserted m) i; cache = fun-ext (cache-same left w (kept cachesRegion tt tt)) i };
       }
 
   -- every condition is loaded, the new one too
-  rooted-left : Rooted w → Rooted left
-  rooted-left r =
-      rooted-by-tables left w (kept tablesRegion tt tt) r
+  all-loaded-left : AllLoaded w → AllLoaded left
+  all-loaded-left r =
+      all-loaded-by-tables left w (kept tablesRegion tt tt) r
       (λ k l.
       shifted-each (λ j x. x ≢ 0 → at disjunctionSizes (x - 1) w ≢ 0) clauseConditions (rankOf w parent) (at clauseCount 0 w) (conditionWord condition) left w
       (condition-shifted w parent key condition clause p h)
@@ -181,7 +171,7 @@ module _ (w : List ℕ) (parent key condition clause : ℕ) (p : Placed w parent
       record {
         sound = registered-sound w parent key condition clause p h;
         mapped = mapped-frame left w (kept trailRegion tt tt) (g .mapped);
-        rooted = rooted-left (g .rooted);
+        all-loaded = all-loaded-left (g .all-loaded);
         reached = subst Reached (sym (register-is (g .mapped))) (then (g .reached) (registers parent key (literalsAt w (conditionWord condition)) clause));
       }
 

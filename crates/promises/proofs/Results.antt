@@ -1,42 +1,42 @@
--- WHAT DOCUMENT 01 SAYS OF THE ANSWERS, FOR THE WORDS THAT THE CALLS READ AND WRITE; of refusal 1 see `RefusalOne`, of position order
+-- WHAT DOCUMENT 01 SAYS OF THE ANSWERS, FOR THE WORDS THAT THE CALLS READ AND WRITE; of refusals see `Refusals`, of position order
 -- `Positions`. Assumes nothing.
 use mathlib.Core.Bool.{Bool, true, false, cond, not, _&&_}
 use mathlib.Core.List.{List}
 use mathlib.Core.Logic.{⊎-elim, _↔_, _≢_}
-use mathlib.Core.Path.{_≡_, refl, ap, sym, _∙_, fun-ext}
+use mathlib.Core.Path.{_≡_, refl, ap, sym, _∙_}
 use Prim.Native.Nat.{ℕ, zero, suc, _+_, _-_, _*_, _≤_, _<_}
 use native.Mathlib.Omega.{arith}
 use borrow.Author.Tests.{eqb-false}
 use lib.Dec.{T, eqb, eqb→eq}
 use lib.ListN.{length}
 use Rattle.evaluate.proofs.Froms.{length-mirror, length-trail}
-use Rattle.evaluate.specs.Standing.{envOf, markOf, queueOf, storeOf}
+use Rattle.evaluate.specs.Standing.{envOf, markOf, queueOf}
 use Rattle.evaluate.specs.View.{assigned, from, listAt, listsAt}
-use Rattle.promises.proofs.Asking.{ask-is}
+use Rattle.examine.proofs.Stand.{at-beside}
 use Rattle.promises.proofs.Calling.{reached-genuine, reached-sound}
+use Rattle.promises.proofs.Dying.{walk-dies}
 use Rattle.promises.proofs.Demands.{demand2, one-proposal, reached-holds}
-use Rattle.promises.proofs.Genuine.{Genuine}
 use Rattle.promises.proofs.Leaving.{tally-is, walk-leaves}
-use Rattle.promises.specs.Calls.{ReachedWords, numberOf, propose}
-use Rattle.promises.specs.Leaving.{dropsOf, examined, marked, notOpen, queueSize}
+use Rattle.imbolaverk.specs.Calls.{ReachedWords, numberOf, propose}
+use Rattle.promises.specs.Leaving.{Dies, dropsOf, examined, marked, notOpen, queueSize}
 use Rattle.promises.specs.Six.{SameButMode, undropped}
 use Rattle.proposal.proofs.Kept.{answer-along}
 use Rattle.proposal.proofs.Steps.{name-below}
 use Rattle.proposal.specs.Propose.{answer, proposalIn, proposalInStore, proposalNumber, proposalOut, proposalStore, told, unsynced}
-use Rattle.rules.proofs.Bools.{or-cases}
-use Rattle.rules.proofs.Drops.{drops-of}
+use Rattle.rules.proofs.Drops.{drops-of, tally}
 use Rattle.rules.proofs.Modes.{modes}
 use Rattle.rules.proofs.Nothing.{nothing-iff}
 use Rattle.rules.proofs.Sweeps.{routes-same}
-use Rattle.rules.specs.Queue.{Queue, propose as ruled}
-use Rattle.rules.specs.Store.{Store, ask, asked}
+use Rattle.rules.specs.Queue.{Queue}
 use Rattle.rules.specs.Sync.{routes}
 use Rattle.rules.specs.Walk.{look, member, mode, named, ranks, walk}
 use Rattle.store.proofs.AreaLaws.{at-past}
-use Rattle.store.proofs.Choice.{lt-or}
+use Rattle.store.proofs.Choice.{lt-or, true-false, or-cases}
+use Rattle.store.proofs.Soundness.{sound-facts}
 use Rattle.store.specs.Area.{at}
 use Rattle.store.specs.Layout.{activities, clauseCount, hotNames, mirrorLength, syncFloor, trailLength}
 use Rattle.store.specs.Limits.{names}
+use Rattle.store.specs.Shape.{Sound, soundShape}
 use Rattle.sync.proofs.Mirrored.{touches-are}
 use Rattle.sync.proofs.Standing.{sync-is}
 use Rattle.sync.specs.Sync.{syncOut, syncStore, touchedIn}
@@ -45,7 +45,20 @@ use Rattle.rules.specs.declared.Out.{Out}
 use Rattle.rules.specs.declared.Out.the-variants.{Nothing, Dead as DeadClause, Choose}
 use Rattle.rules.specs.declared.Seen.the-variants.{Shut, Gone}
 use Rattle.sync.specs.declared.Synced.the-variants.{Touches}
-use Rattle.trail.specs.declared.Value.{Value}
+
+-- 7: "a proposal is asked of an unsynced store", exactly
+pub unsynced-exactly : (w : List ℕ) → soundShape w ≡ true → (numberOf w propose ≡ 7) ↔ (unsynced w ≡ true)
+unfolding proposalOut proposalIn
+unsynced-exactly w h = rw h (go (unsynced w))
+  where
+    other : (o : Out) (d : ℕ) → proposalNumber (told w o d) ≢ 7
+    other Nothing d e = omega (arith, e)
+    other (DeadClause c) d e = omega (arith, e)
+    other (Choose b) d e = omega (arith, e)
+
+    go : (b : Bool) → (proposalNumber (cond b (Refused 7) (told w (answer w .out) (answer w .drops))) ≡ 7) ↔ (b ≡ true)
+    go true = (λ e. refl, λ e. refl)
+    go false = (λ e. absurd (other (answer w .out) (answer w .drops) e), λ e. absurd (true-false (sym e)))
 
 module _ (w : List ℕ) (r : ReachedWords w) where
   module _ (u : unsynced w ≡ false) where
@@ -68,9 +81,13 @@ module _ (w : List ℕ) (r : ReachedWords w) where
         back (DeadClause c) e = cc
         back (Choose b) e = cc
 
+    dies : (clause : ℕ) → (walk (envOf w) (assigned w) ≡ DeadClause clause) ↔ Dies w clause
+    dies clause = walk-dies (envOf w) (assigned w) clause (ranks (at clauseCount 0 w))
+
     -- "A dead clause examined is refusal 8", "its clause id comes too"
-    pub dead-exactly : (clause : ℕ) → (undropped (proposalOut w) ≡ DeadAt clause 0) ↔ (walk (envOf w) (assigned w) ≡ DeadClause clause)
-    dead-exactly clause = (λ e. back (walk (envOf w) (assigned w)) (sym (as-walked _ refl) ∙ e), as-walked (DeadClause clause))
+    pub dead-exactly : (clause : ℕ) → (undropped (proposalOut w) ≡ DeadAt clause 0) ↔ Dies w clause
+    dead-exactly clause =
+        (λ e. dies clause .0 (back (walk (envOf w) (assigned w)) (sym (as-walked _ refl) ∙ e)), λ d. as-walked (DeadClause clause) (dies clause .1 d))
       where
         back : (o : Out) → undropped (told w o 0) ≡ DeadAt clause 0 → o ≡ DeadClause clause
         back Nothing e = cc
@@ -78,13 +95,12 @@ module _ (w : List ℕ) (r : ReachedWords w) where
         back (Choose b) e = cc
 
     -- and the number is 8 then alone
-    pub eight-exactly : (numberOf w propose ≡ 8) ↔ ((clause : ℕ) × (walk (envOf w) (assigned w) ≡ DeadClause clause))
-    unfolding numberOf
-    eight-exactly = (λ e. back (walk (envOf w) (assigned w)) refl (sym (ap proposalNumber (demand2 w r u)) ∙ e), λ d. rw (demand2 w r u, d .1))
+    pub eight-exactly : (numberOf w propose ≡ 8) ↔ ((clause : ℕ) × Dies w clause)
+    eight-exactly = (λ e. back (walk (envOf w) (assigned w)) refl (sym (ap proposalNumber (demand2 w r u)) ∙ e), λ d. rw (demand2 w r u, dies (d .0) .1 (d .1)))
       where
-        back : (o : Out) → walk (envOf w) (assigned w) ≡ o → proposalNumber (told w o (answer w .drops)) ≡ 8 → (clause : ℕ) × (walk (envOf w) (assigned w) ≡ DeadClause clause)
+        back : (o : Out) → walk (envOf w) (assigned w) ≡ o → proposalNumber (told w o (answer w .drops)) ≡ 8 → (clause : ℕ) × Dies w clause
         back Nothing q e = absurd (omega (arith, e))
-        back (DeadClause c) q e = (c, q)
+        back (DeadClause c) q e = (c, dies c .0 q)
         back (Choose b) q e = absurd (omega (arith, e))
 
     -- "A clause leaves the queue exactly when the walk examines it queued and finds it not open"; and none enters
@@ -93,30 +109,6 @@ module _ (w : List ℕ) (r : ReachedWords w) where
     leaves-exactly k =
         rw (reached-sound w r, u)
         (ap (λ (q : Queue). q .mark k) (answer-along w (reached-genuine w r .sound) .2 .0) ∙ walk-leaves (envOf w) (assigned w) (queueOf w) (reached-holds w r u) k)
-
-  -- "drops are the queue's size before less after"
-  pub drops-are-counted : queueSize w ≡ queueSize (proposalStore w) + dropsOf (proposalOut w)
-  unfolding proposalOut proposalStore proposalIn
-  drops-are-counted = rw (reached-sound w r) (go (unsynced w))
-    where
-      dropped : (o : Out) (d : ℕ) → dropsOf (told w o d) ≡ d
-      dropped Nothing d = refl
-      dropped (DeadClause c) d = refl
-      dropped (Choose b) d = refl
-
-      g : Genuine w
-      g = reached-genuine w r
-
-      walked : answer w .drops ≡ (asked (storeOf w)) .drops
-      walked = answer-along w (g .sound) .1 ∙ ap (λ (a : ℕ → Value). (ruled (envOf w) a (queueOf w)) .drops) (fun-ext (g .mapped .told))
-
-      go : (b : Bool) → queueSize w ≡ queueSize (cond b w (proposalInStore w)) + dropsOf (cond b (Refused 7) (told w (answer w .out) (answer w .drops)))
-      go true = omega arith
-      go false =
-          let before = tally-is (markOf w) (ranks (at clauseCount 0 w)) in
-          let after = tally-is ((ask (storeOf w)) .queue .mark) (ranks (at clauseCount 0 w)) in
-          let left = ap (λ (t : Store). length (marked (t .queue .mark) (ranks (t .env .size)))) (ask-is w (g .sound) (g .mapped .told)) in
-          omega (arith, before, after, left, dropped (answer w .out) (answer w .drops), walked, drops-of (storeOf w))
 
   -- "touches are the mirror's length plus the trail's, less twice the floor"
   pub touches-are-counted : syncOut w ≡ Touches (at mirrorLength 0 w + at trailLength 0 w - 2 * at syncFloor 0 w)
@@ -130,6 +122,32 @@ module _ (w : List ℕ) (r : ReachedWords w) where
   unfolding syncStore
   sync-any-order touched same =
       rw (reached-sound w r) (sync-is w (reached-genuine w r .sound) ∙ sym (routes-same touched (touchedIn w) same (envOf w) (assigned w) (queueOf w)))
+
+-- "drops are the queue's size before less after", on any words
+pub drops-are-counted : (w : List ℕ) → queueSize w ≡ queueSize (proposalStore w) + dropsOf (proposalOut w)
+unfolding proposalOut proposalStore proposalIn proposalInStore
+drops-are-counted w = go (soundShape w) (unsynced w) refl
+  where
+    dropped : (o : Out) (d : ℕ) → dropsOf (told w o d) ≡ d
+    dropped Nothing d = refl
+    dropped (DeadClause c) d = refl
+    dropped (Choose b) d = refl
+
+    walked : Sound w → queueSize w ≡ queueSize (answer w .left) + dropsOf (told w (answer w .out) (answer w .drops))
+    walked h =
+        let along = answer-along w h in
+        let ks = ranks (at clauseCount 0 w) in
+        let before = tally-is (markOf w) ks in
+        let after = tally-is (markOf (answer w .left)) ks in
+        let left = ap (λ (q : Queue). tally (q .mark) ks) (along .2 .0) in
+        let same = ap (λ (n : ℕ). length (marked (markOf (answer w .left)) (ranks n))) (at-beside (answer w .left) w (along .2 .1) clauseCount tt 0) in
+        omega (arith, before, after, left, same, along .1, dropped (answer w .out) (answer w .drops), drops-of (envOf w) (assigned w) (queueOf w))
+
+    go : (b c : Bool) → soundShape w ≡ b →
+        queueSize w ≡ queueSize (cond b (cond c w (answer w .left)) w) + dropsOf (cond b (cond c (Refused 7) (told w (answer w .out) (answer w .drops))) (Refused 1))
+    go true true e = omega arith
+    go true false e = walked (sound-facts w e)
+    go false c e = omega arith
 
 -- "Where no open clause is dead and every cold name's activity is zero, both modes give the same proposal, drop count aside"
 module _ (w u : List ℕ) (r : ReachedWords w) (q : ReachedWords u) (same : SameButMode w u)

@@ -6,7 +6,7 @@ use lib.Dec.{T}
 use lib.Ieee.{Float, binary32, fits}
 use Rattle.evaluate.proofs.Frames.{clauses-same, env-tuned, mirror-same, queue-same, trail-same}
 use Rattle.evaluate.specs.Standing.{envOf, storeOf}
-use Rattle.promises.proofs.Genuine.{Genuine, mapped-frame, rooted-same}
+use Rattle.promises.proofs.Genuine.{Genuine, mapped-frame, all-loaded-same}
 use Rattle.rules.specs.Store.{Reached, then, tuned, tunes}
 use Rattle.settings.proofs.Kept.{activity-outside, activity-sound, hot-outside, hot-sound, mode-outside, mode-sound}
 use Rattle.settings.specs.Settings.{activityInStore, activityStore, hotInStore, hotStore, modeInStore, modeStore}
@@ -34,10 +34,11 @@ module _ (s w : List ℕ) (out : (a : Area) → T (apart a settingsRegion) → a
       record {
         sound = h;
         mapped = mapped-frame s w (out trailRegion tt) (g .mapped);
-        rooted = rooted-same s w (out clausesRegion tt) (out tablesRegion tt) (g .rooted);
+        all-loaded = all-loaded-same s w (out clausesRegion tt) (out tablesRegion tt) (g .all-loaded);
         reached = subst Reached (sym store-tuned) (then (g .reached) (tunes ((envOf s) .activity) ((envOf s) .hot) ((envOf s) .standard)));
       }
 
+-- THE THREE CALLS
 module _ (w : List ℕ) (g : Genuine w) where
   pub mark-hot-genuine : (name : ℕ) → Genuine (hotStore w name)
   unfolding hotStore

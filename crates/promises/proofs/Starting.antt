@@ -5,7 +5,7 @@ use Prim.Native.Nat.{ℕ, _+_, _≤_}
 use native.Mathlib.Omega.{arith}
 use borrow.Author.Tests.{le-leb}
 use lib.ListN.{length}
-use Rattle.evaluate.specs.Standing.{memoBy, memoOf, mirrorOf, storeOf}
+use Rattle.evaluate.specs.Standing.{cacheBy, cacheOf, mirrorOf, storeOf}
 use Rattle.promises.proofs.Genuine.{Genuine}
 use Rattle.promises.proofs.Trails.{mapped-none, trail-none}
 use Rattle.rules.specs.Store.{Fresh, fresh}
@@ -21,7 +21,7 @@ module _ (w : List ℕ) (long : words ≤ length w) where
 
   -- the words stand for a fresh store
   words-fresh : Fresh (storeOf (freshWords w))
-  unfolding memoOf memoBy
+  unfolding cacheOf cacheBy
   words-fresh =
       record {
         no-size = fresh-zero w long clauseCount tt tt 0;
@@ -40,7 +40,7 @@ module _ (w : List ℕ) (long : words ≤ length w) where
       record {
         sound = fresh-sound w long;
         mapped = mapped-none (freshWords w) (fresh-zero w long trailLength tt tt 0) (fresh-zero w long map tt tt);
-        rooted =
+        all-loaded =
             record {
               singles = λ v l h. absurd (h (fresh-zero w long tablesLoaded tt tt v));
               unions-known = λ u l h. absurd (h (fresh-zero w long tablesLoaded tt tt (versionSets + u)));
@@ -51,6 +51,7 @@ module _ (w : List ℕ) (long : words ≤ length w) where
         reached = fresh words-fresh;
       }
 
+  -- A FRESH STORE
   pub fresh-genuine : Genuine (freshStore w)
   unfolding freshStore
   fresh-genuine = rw (le-leb words (length w) long) words-genuine

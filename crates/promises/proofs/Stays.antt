@@ -3,20 +3,20 @@
 use mathlib.Core.List.{List, []}
 use mathlib.Core.Logic.{⊎-elim, _≢_}
 use mathlib.Core.Path.{_≡_, refl, sym, ap, _∙_, fun-ext}
-use Prim.Native.Nat.{ℕ, zero, suc, _+_, _-_, _*_, _≤_, _<_}
-use native.Mathlib.Nat.{add-zero}
+use Prim.Native.Nat.{ℕ, _+_, _-_, _*_, _≤_, _<_}
 use native.Mathlib.Omega.{arith}
 use borrow.Author.Tests.{lt-ltb, le-ltb, eq-eqb, ne-eqb}
 use lib.Dec.{T, eqb}
 use Rattle.evaluate.proofs.Frames.{mirror-same, queue-same, trail-same}
+use Rattle.evaluate.proofs.Froms.{from-agree}
 use Rattle.evaluate.specs.Standing.{envOf, ofClause, queueOf, storeOf}
 use Rattle.evaluate.specs.View.{from, listAt, listsAt, literalAt, literalsAt}
-use Rattle.promises.proofs.Genuine.{Genuine, Rooted, mapped-frame}
+use Rattle.promises.proofs.Genuine.{Genuine, AllLoaded, mapped-frame}
 use Rattle.requirement.proofs.Kept.{tableRegion}
 use Rattle.requirement.proofs.Views.{listed-sets}
 use Rattle.requirement.specs.Tables.{cellsOf, firstSlot, listCount, setCount, setOf}
-use Rattle.rules.specs.Store.{Reached, changed, loaded, remade}
-use Rattle.rules.specs.Walk.{CandidateList, Environment}
+use Rattle.rules.specs.Store.{Reached, changed, loaded, relisted, remade}
+use Rattle.rules.specs.Walk.{CandidateList}
 use Rattle.store.proofs.AreaLaws.{area-same, at-past, at-same, within}
 use Rattle.store.proofs.Choice.{eq-or, lt-or}
 use Rattle.store.specs.Area.{Area, area, at, apart}
@@ -109,17 +109,12 @@ pub elsewhere : (a : Area) (w : List ℕ) (i j : ℕ) → at a i w ≡ 0 → at 
 elsewhere a w i j z n e = n (ap (λ k. at a k w) e ∙ z)
 
 -- what two functions that agree on n numbers say of them
-pub from-within : {A : Type 0} (f g : ℕ → A) (i n : ℕ) → ((j : ℕ) → j < n → f (i + j) ≡ g (i + j)) → from f i n ≡ from g i n
-unfolding from
-from-within f g i zero h = refl
-from-within f g i (suc n) h =
-    let a : f i ≡ g i = rw (add-zero i) at (h 0 (omega arith)) in
-    let b =
-    from-within f g (i + 1) n
-    (λ j l.
-    let e : i + 1 + j ≡ i + suc j = omega arith in
-    rw e (h (suc j) (omega arith))) in
-    rw (a, b)
+from-within : {A : Type 0} (f g : ℕ → A) (i n : ℕ) → ((j : ℕ) → j < n → f (i + j) ≡ g (i + j)) → from f i n ≡ from g i n
+from-within f g i n h =
+    from-agree f g i n
+    (λ k a b.
+    let z : i + (k - i) ≡ k = omega arith in
+    rw z at (h (k - i) (omega arith)))
 
 -- a requirement with a table is one of document 01's
 pub tabled-key : (w : List ℕ) (key : ℕ) → at tablesLoaded key w ≢ 0 → key < requirements
@@ -127,11 +122,11 @@ tabled-key w key l =
     ⊎-elim (λ (h : key < requirements). h) (λ (h : requirements ≤ key). absurd (l (at-past tablesLoaded key w h))) (lt-or key requirements)
 
 -- THE LISTS OF A LOADED TABLE are named by loaded version sets, so they stay
-module _ (s w : List ℕ) (sets : SetsStay s w) (tables : TablesStay s w) (r : Rooted w) (key : ℕ) (l : at tablesLoaded key w ≢ 0) where
+module _ (s w : List ℕ) (sets : SetsStay s w) (tables : TablesStay s w) (r : AllLoaded w) (key : ℕ) (l : at tablesLoaded key w ≢ 0) where
   key< : key < requirements
   key< = tabled-key w key l
 
-  union-known : versionSets ≤ key → at unionSizes (key - versionSets) w ≢ 0
+  pub union-known : versionSets ≤ key → at unionSizes (key - versionSets) w ≢ 0
   union-known h =
       let e : versionSets + (key - versionSets) ≡ key = omega arith in
       r .unions-known (key - versionSets) (omega (arith, key<)) (rw e l)
@@ -145,7 +140,7 @@ module _ (s w : List ℕ) (sets : SetsStay s w) (tables : TablesStay s w) (r : R
       (λ (h : versionSets ≤ key). rw (le-ltb key versionSets h, sets .sizes-stay (key - versionSets) (union-known h)))
       (lt-or key versionSets))
 
-  set-stays : (j : ℕ) → j < setCount w key → (setOf s (firstSlot key + j) ≡ setOf w (firstSlot key + j)) × (at setNames (setOf w (firstSlot key + j)) w ≢ 0)
+  pub set-stays : (j : ℕ) → j < setCount w key → (setOf s (firstSlot key + j) ≡ setOf w (firstSlot key + j)) × (at setNames (setOf w (firstSlot key + j)) w ≢ 0)
   unfolding setOf setCount firstSlot
   set-stays j h = ⊎-elim single union (lt-or key versionSets)
     where
@@ -180,7 +175,7 @@ pub no-lists : (w : List ℕ) (key : ℕ) → at tablesLoaded key w ≡ 0 → li
 unfolding listsAt listCount from
 no-lists w key e = rw e
 
-pub lists-stay : (s w : List ℕ) → SetsStay s w → TablesStay s w → Rooted w → (key : ℕ) → at tablesLoaded key s ≡ at tablesLoaded key w → listsAt s key ≡ listsAt w key
+lists-stay : (s w : List ℕ) → SetsStay s w → TablesStay s w → AllLoaded w → (key : ℕ) → at tablesLoaded key s ≡ at tablesLoaded key w → listsAt s key ≡ listsAt w key
 lists-stay s w sets tables r key m =
     ⊎-elim
     (λ (e : at tablesLoaded key w ≡ 0). no-lists s key (m ∙ e) ∙ sym (no-lists w key e))
@@ -198,7 +193,7 @@ module _ (s w : List ℕ) (beside : Beside s w) where
   clause-beside a t k = rw (at-beside clauseCount tt 0, at-beside a t k)
 
 -- THE CONDITION OF A REGISTERED CLAUSE is loaded, and its literals are counted, so they stay
-module _ (s w : List ℕ) (beside : Beside s w) (literals : LiteralsStay s w) (r : Rooted w) where
+module _ (s w : List ℕ) (beside : Beside s w) (literals : LiteralsStay s w) (r : AllLoaded w) where
   loaded-literals-stay : (d : ℕ) → at disjunctionSizes d w ≢ 0 → from (literalAt s) (at disjunctionStarts d s) (at disjunctionSizes d s - 1) ≡ from (literalAt w) (at disjunctionStarts d w) (at disjunctionSizes d w - 1)
   loaded-literals-stay d l =
       rw (literals .starts-stay d l, literals .spans-stay d l)
@@ -220,23 +215,7 @@ module _ (s w : List ℕ) (beside : Beside s w) (literals : LiteralsStay s w) (r
       (λ (h : at clauseCount 0 w ≤ k). rw (le-ltb k (at clauseCount 0 w) h))
       (lt-or k (at clauseCount 0 w)))
 
--- other lists in an environment
-abbrev withLists : Environment → (ℕ → List CandidateList) → Environment
-withLists e ls =
-    record {
-      size = e .size;
-      parent = e .parent;
-      requirement = e .requirement;
-      condition = e .condition;
-      clauseId = e .clauseId;
-      lists = ls;
-      activity = e .activity;
-      names = e .names;
-      hot = e .hot;
-      standard = e .standard;
-    }
-
-module _ (s w : List ℕ) (stays : Stays s w) (r : Rooted w) where
+module _ (s w : List ℕ) (stays : Stays s w) (r : AllLoaded w) where
   here : (a : Area) → T (apart a tablesRegion) → (i : ℕ) → at a i s ≡ at a i w
   here a t i = at-beside s w (stays .beside) a t i
 
@@ -244,7 +223,7 @@ module _ (s w : List ℕ) (stays : Stays s w) (r : Rooted w) where
   clauses-here a t = fun-ext (clause-beside s w (stays .beside) a t)
 
   -- THE STORE is that of w, with the lists that there are now
-  store-with : (ls : ℕ → List CandidateList) → ((key : ℕ) → listsAt s key ≡ ls key) → storeOf s ≡ remade (storeOf w) (withLists (envOf w) ls) (queueOf w)
+  store-with : (ls : ℕ → List CandidateList) → ((key : ℕ) → listsAt s key ≡ ls key) → storeOf s ≡ remade (storeOf w) (relisted (envOf w) ls) (queueOf w)
   store-with ls f =
       λ i.
       record {
@@ -288,8 +267,8 @@ module _ (s w : List ℕ) (stays : Stays s w) (r : Rooted w) where
   sized-stays : (u : ℕ) → at unionSizes u w ≢ 0 → at unionSizes u s ≢ 0
   sized-stays u h = rw (stays .sets .sizes-stay u h) h
 
-  pub rooted-stays : Rooted s
-  rooted-stays =
+  all-loaded-stays : AllLoaded s
+  all-loaded-stays =
       record {
         singles =
             λ v l h.
@@ -333,6 +312,6 @@ genuine-stays s w g sound stays reached =
     record {
       sound = sound;
       mapped = mapped-frame s w (stays .beside trailRegion tt) (g .mapped);
-      rooted = rooted-stays s w stays (g .rooted);
+      all-loaded = all-loaded-stays s w stays (g .all-loaded);
       reached = reached;
     }

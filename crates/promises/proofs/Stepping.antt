@@ -10,7 +10,7 @@ use Rattle.conditions.specs.Disjunct.{disjunctIn, disjunctOut, holdsNumber, hol
 use Rattle.conditions.specs.Rewrite.{rewriteCells, rewriteIn, rewriteInCells, rewriteInLengths, rewriteLengths, rewriteOut, rewrittenNumber, rewrittenValues}
 use Rattle.promises.proofs.Calling.{call-genuine}
 use Rattle.promises.proofs.Genuine.{Genuine}
-use Rattle.promises.specs.Calls.{Call, fresh, load-version-set, load-union, load-candidates, load-disjunction, load-condition, register, mark-hot, set-activity, set-mode, assign, undo-last, undo-until, next-unpropagated, sync, propose, value-of, clause-of, trail-length, copy-trail, copy-candidates, rewrite, disjunct-holds, settings, name-of, leftBy, numberOf, run, valuesOf, wordsOf}
+use Rattle.imbolaverk.specs.Calls.{Call, fresh, load-version-set, load-union, load-candidates, load-disjunction, load-condition, register, mark-hot, set-activity, set-mode, assign, undo-last, undo-until, next-unpropagated, sync, propose, value-of, clause-of, trail-length, copy-trail, copy-candidates, rewrite, disjunct-holds, settings, name-of, leftBy, numberOf, run, valuesOf, wordsOf}
 use Rattle.promises.specs.Scripts.{answers}
 use Rattle.proposal.specs.Propose.{answer, proposalIn, proposalInStore, proposalNumber, proposalOut, proposalStore, proposalValues, told, unsynced}
 use Rattle.proposal.specs.declared.Proposal.{Proposal}
@@ -92,8 +92,8 @@ stepIn w (disjunct-holds kinds starts lengths cells) = let r = disjunctIn w kind
 stepIn w settings = step (0 ∷ at mode 0 w ∷ []) w
 stepIn w (name-of name) = let r = nameIn w name in step (nameNumber r ∷ nameValues r) w
 
-pub step-is : (w : List ℕ) → soundShape w ≡ true → (c : Call) → step (numberOf w c ∷ valuesOf w c) (leftBy w c) ≡ stepIn w c
-unfolding loadVersionSetInStore loadUnionInStore loadInStore loadDisjunctionInStore loadConditionInStore registerInStore assignInStore proposalIn proposalInStore numberOf valuesOf leftBy stepIn proposed loadVersionSetOut loadVersionSetStore loadUnionOut loadUnionStore loadOut loadStore loadDisjunctionOut loadDisjunctionStore loadConditionOut loadConditionStore registerOut registerStore hotOut hotStore activityOut activityStore modeOut modeStore assignOut assignStore undoLastOut undoLastStore undoUntilOut undoUntilStore nextOut nextStore syncOut syncStore proposalOut proposalStore valueOut clauseOut lengthOut trailOut copyOut copyLengths copyCells rewriteOut rewriteLengths rewriteCells disjunctOut modeNow nameNow
+step-is : (w : List ℕ) → soundShape w ≡ true → (c : Call) → step (numberOf w c ∷ valuesOf w c) (leftBy w c) ≡ stepIn w c
+unfolding loadVersionSetInStore loadUnionInStore loadInStore loadDisjunctionInStore loadConditionInStore registerInStore assignInStore proposalIn proposalInStore stepIn proposed loadVersionSetOut loadVersionSetStore loadUnionOut loadUnionStore loadOut loadStore loadDisjunctionOut loadDisjunctionStore loadConditionOut loadConditionStore registerOut registerStore hotOut hotStore activityOut activityStore modeOut modeStore assignOut assignStore undoLastOut undoLastStore undoUntilOut undoUntilStore nextOut nextStore syncOut syncStore proposalOut proposalStore valueOut clauseOut lengthOut trailOut copyOut copyLengths copyCells rewriteOut rewriteLengths rewriteCells disjunctOut modeNow nameNow
 step-is w h fresh = refl
 step-is w h (load-version-set set name) = rw h
 step-is w h (load-union union members) = rw h

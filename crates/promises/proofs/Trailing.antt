@@ -11,7 +11,7 @@ use lib.ListN.{length, take}
 use Rattle.evaluate.proofs.Frames.{assigned-same, entry-by, env-same, mirror-same, queue-same, trail-by}
 use Rattle.evaluate.specs.Standing.{entryAt, storeOf, trailOf}
 use Rattle.evaluate.specs.View.{assigned}
-use Rattle.promises.proofs.Genuine.{Genuine, Mapped, mapped-same, rooted-frame}
+use Rattle.promises.proofs.Genuine.{Genuine, Mapped, mapped-same, all-loaded-frame}
 use Rattle.promises.proofs.Trails.{mapped-none, mapped-popped, mapped-pushed, trail-cut, trail-none, trail-pushed}
 use Rattle.rules.specs.Store.{Reached, Step, Store, push, same, then, undo}
 use Rattle.rules.specs.Sync.{Entry, valueOf}
@@ -22,13 +22,13 @@ use Rattle.store.specs.Layout.{clauseCount, environmentRegion, map, mirrorRegio
 use Rattle.store.specs.Limits.{lastLevel}
 use Rattle.store.specs.Shape.{Sound, soundShape}
 use Rattle.trail.proofs.Assigning.{Fitting, new-fits}
-use Rattle.trail.proofs.Kept.{cleared-count, cleared-floor, cleared-map, cleared-outside, cleared-sound, least-min, next-sound, popped-floor, popped-outside, popped-sound, pushed-count, pushed-kept, pushed-outside, pushed-sound}
+use Rattle.trail.proofs.Kept.{cleared-count, cleared-floor, cleared-map, cleared-outside, cleared-sound, next-sound, popped-floor, popped-outside, popped-sound, pushed-count, pushed-kept, pushed-outside, pushed-sound}
 use Rattle.trail.proofs.Popping.{entered, popped-count, popped-kept}
 use Rattle.trail.specs.Assign.{assignIn, assignInStore, assignLeft, assignStore, pushed}
 use Rattle.trail.specs.Cell.{cellOf, cellSide, cellValue}
-use Rattle.trail.specs.Entries.{Entered, entries, lastLevelOf}
+use Rattle.trail.specs.Entries.{Entered, entries, levelOfLast}
 use Rattle.trail.specs.Next.{nextInStore, nextStore}
-use Rattle.trail.specs.UndoLast.{least, popped, undoLastInStore, undoLastStore}
+use Rattle.trail.specs.UndoLast.{popped, undoLastInStore, undoLastStore}
 use Rattle.trail.specs.UndoUntil.{cleared, noStop, poppedTo, undoUntilInStore, undoUntilStore}
 use Rattle.trail.specs.declared.Assigned.{Assigned}
 use Rattle.trail.specs.declared.Assigned.the-variants.{Already, New, Refused}
@@ -56,7 +56,7 @@ module _ (s w : List ℕ) (out : (a : Area) → T (apart a trailRegion) → area
       record {
         sound = sound;
         mapped = mapped;
-        rooted = rooted-frame s w (out environmentRegion tt) (g .rooted);
+        all-loaded = all-loaded-frame s w (out environmentRegion tt) (g .all-loaded);
         reached = subst Reached (sym (store-trailed trail floor e f)) (then (g .reached) step);
       }
 
@@ -158,7 +158,7 @@ module _ (w : List ℕ) (g : Genuine w) where
   last = at trailVariables (entries w - 1) w
 
   abbrev toCounts : List Write
-  toCounts = write trailLength 0 (entries w - 1) ∷ write propagated 0 (entries w - 1) ∷ write syncFloor 0 (least (entries w - 1) (at syncFloor 0 w)) ∷ []
+  toCounts = write trailLength 0 (entries w - 1) ∷ write propagated 0 (entries w - 1) ∷ write syncFloor 0 (min (at syncFloor 0 w) (entries w - 1)) ∷ []
 
   -- the popped variable's cell is zero
   popped-cell : at map last (popped w) ≡ 0
@@ -169,13 +169,13 @@ module _ (w : List ℕ) (g : Genuine w) where
   unfolding popped
   popped-cells v d = at-puts-else map last v 0 [] toCounts w d (fit .named (entries w - 1)) tt tt tt (omega arith, (omega arith, (omega arith, tt)))
 
-  pub popped-genuine : 0 < entries w → Genuine (popped w)
+  popped-genuine : 0 < entries w → Genuine (popped w)
   unfolding assigned cellValue
   popped-genuine some =
       let n : ℕ = entries w - 1 in
       let e = trail-cut (popped w) w n (popped-count w fit) (omega arith) (λ k l. popped-entries k) in
       trailed-genuine (popped w) w (popped-outside w (g .sound)) (take n (trailOf w)) (min (at syncFloor 0 w) n) e
-      (popped-floor w (g .sound) ∙ least-min n (at syncFloor 0 w)) (undo n) (popped-sound w (g .sound))
+      (popped-floor w (g .sound)) (undo n) (popped-sound w (g .sound))
       (mapped-popped (popped w) w (g .mapped) n (omega arith) e (ap cellValue popped-cell) (λ v d. ap cellValue (popped-cells v d)))
       g
 
@@ -185,12 +185,12 @@ module _ (w : List ℕ) (g : Genuine w) where
       trailed-genuine (cleared w) w (cleared-outside w h) [] (min (at syncFloor 0 w) 0) (trail-none (cleared w) (cleared-count w h))
       (cleared-floor w h ∙ omega arith) (undo 0) (cleared-sound w h) (mapped-none (cleared w) (cleared-count w h) (cleared-map w h)) g
 
-pub poppedTo-genuine : (level n : ℕ) (w : List ℕ) → n ≤ entries w → Genuine w → Genuine (poppedTo level n w)
+poppedTo-genuine : (level n : ℕ) (w : List ℕ) → n ≤ entries w → Genuine w → Genuine (poppedTo level n w)
 unfolding poppedTo
 poppedTo-genuine level zero w l g = g
 poppedTo-genuine level (suc n) w l g =
     let rest = poppedTo-genuine level n (popped w) (omega (arith, l, popped-count w (entered w (g .sound)))) (popped-genuine w g (omega (arith, l))) in
-    cond-either Genuine (leb (lastLevelOf w) level) w (poppedTo level n (popped w)) (λ e. g) (λ e. rest)
+    cond-either Genuine (leb (levelOfLast w) level) w (poppedTo level n (popped w)) (λ e. g) (λ e. rest)
 
 pub undo-last-genuine : (w : List ℕ) → Genuine w → Genuine (undoLastStore w)
 unfolding undoLastStore undoLastInStore
@@ -225,7 +225,7 @@ module _ (w : List ℕ) (x : ℕ) (g : Genuine w) where
       let e = trail-by moved w (moved-kept trailLength 0 tt) (λ k. entry-by moved w k (moved-kept trailVariables k tt) (moved-kept trailValues k tt)) in
       trailed-genuine moved w (λ a t. area-kept a propagated 0 x w (apart-inside a propagated trailRegion t tt) (omega arith)) (trailOf w) (at syncFloor 0 w) e
       (moved-kept syncFloor 0 tt) same h
-      (mapped-same moved w (assigned-same moved w (area-kept map propagated 0 x w tt (omega arith))) e (moved-kept trailLength 0 tt) (λ k. moved-kept trailVariables k tt) (g .mapped)) g
+      (mapped-same moved w (assigned-same moved w (area-kept map propagated 0 x w tt (omega arith))) e (g .mapped)) g
 
 pub next-genuine : (w : List ℕ) → Genuine w → Genuine (nextStore w)
 unfolding nextStore nextInStore

@@ -8,7 +8,7 @@ use native.Mathlib.Nat.{zero-add}
 use native.Mathlib.Omega.{arith}
 use borrow.Author.Tests.{eqb-true, eqb-false}
 use lib.Dec.{eqb}
-use lib.ListN.{length, getD, take}
+use lib.ListN.{getD, take}
 use lib.Seq.{take-all}
 use Rattle.evaluate.proofs.Froms.{from-agree, from-more, getD-from, length-trail, take-from}
 use Rattle.evaluate.specs.Standing.{entryAt, trailOf}
@@ -23,7 +23,7 @@ use Rattle.trail.specs.Cell.{cellValue}
 use Rattle.trail.specs.declared.Value.the-variants.{Undecided}
 
 -- the trail's length and its entries
-pub trail-variable : (w : List ℕ) (k : ℕ) → k < at trailLength 0 w → (getD (trailOf w) k none) .variable ≡ at trailVariables k w
+trail-variable : (w : List ℕ) (k : ℕ) → k < at trailLength 0 w → (getD (trailOf w) k none) .variable ≡ at trailVariables k w
 unfolding trailOf entryAt
 trail-variable w k h = ap (λ (d : Entry). d .variable) (getD-from (entryAt w) 0 k (at trailLength 0 w) none h ∙ ap (entryAt w) (zero-add k))
 
@@ -49,25 +49,8 @@ pub trail-none : (w : List ℕ) → at trailLength 0 w ≡ 0 → trailOf w ≡ [
 unfolding trailOf from
 trail-none w c = ap (from (entryAt w) 0) c
 
--- "each variable stands once" is "no entry's variable was assigned when it was pushed"
-pub mapped-grown : (w : List ℕ) → Mapped w → Grown (trailOf w)
-unfolding Grown
-mapped-grown w m k l =
-    let h : k < at trailLength 0 w = omega (arith, l, length-trail w) in
-    rw (trail-variable w k h) (m .once k h)
-
 mapped-by : (w : List ℕ) (t : List Entry) → trailOf w ≡ t → ((v : ℕ) → assigned w v ≡ value t v) → Grown t → Mapped w
-unfolding Grown
-mapped-by w t e told g =
-    record {
-      told = λ v. told v ∙ ap (λ (d : List Entry). value d v) (sym e);
-      once =
-          λ k h.
-          let q : k < length t = omega (arith, h, length-trail w, ap length e) in
-          ap (λ (v : ℕ). value (take k (trailOf w)) v) (sym (trail-variable w k h))
-          ∙ ap (λ (d : List Entry). value (take k d) ((getD d k none) .variable)) e
-          ∙ g k q;
-    }
+mapped-by w t e told g = record { told = λ v. told v ∙ ap (λ (d : List Entry). value d v) (sym e); grown = rw e g }
 
 -- a function that another one is but at one number
 changed-at : {A : Type 0} (f g : ℕ → A) (k : ℕ) (x : A) → g k ≡ x → ((j : ℕ) → j ≢ k → g j ≡ f j) → (j : ℕ) → g j ≡ changed f k x j
@@ -83,7 +66,7 @@ module _ (s w : List ℕ) (m : Mapped w) where
   mapped-pushed d e u new old =
       mapped-by s (trailOf w ++ (d ∷ [])) e
       (λ v. changed-at (assigned w) (assigned s) (d .variable) (valueOf (d .positive)) new old v ∙ push-map (assigned w) (trailOf w) d (m .told) u v)
-      (push-grown (trailOf w) d (sym (m .told (d .variable)) ∙ u) (mapped-grown w m))
+      (push-grown (trailOf w) d (sym (m .told (d .variable)) ∙ u) (m .grown))
 
   pub mapped-popped : (n : ℕ) → suc n ≡ at trailLength 0 w → trailOf s ≡ take n (trailOf w) → assigned s (at trailVariables n w) ≡ Undecided → ((v : ℕ) → v ≢ at trailVariables n w → assigned s v ≡ assigned w v) → Mapped s
   mapped-popped n c e new old =
@@ -93,13 +76,9 @@ module _ (s w : List ℕ) (m : Mapped w) where
       (λ v.
       changed-at (assigned w) (assigned s) (at trailVariables n w) Undecided new old v
       ∙ ap (λ (y : ℕ). changed (assigned w) y Undecided v) (sym x)
-      ∙ pop-map (assigned w) (trailOf w) n (omega (arith, c, length-trail w)) (mapped-grown w m) (λ u. m .told u ∙ ap (λ (d : List Entry). value d u) (sym all)) v)
-      (cut-grown (trailOf w) n (mapped-grown w m))
+      ∙ pop-map (assigned w) (trailOf w) n (omega (arith, c, length-trail w)) (m .grown) (λ u. m .told u ∙ ap (λ (d : List Entry). value d u) (sym all)) v)
+      (cut-grown (trailOf w) n (m .grown))
 
 pub mapped-none : (w : List ℕ) → at trailLength 0 w ≡ 0 → ((v : ℕ) → at map v w ≡ 0) → Mapped w
-unfolding assigned value cellValue
-mapped-none w c z =
-    record {
-      told = λ v. rw (z v, trail-none w c);
-      once = λ k h. absurd (omega (arith, c, h));
-    }
+unfolding assigned value cellValue Grown
+mapped-none w c z = mapped-by w [] (trail-none w c) (λ v. rw (z v)) (λ i l. absurd (omega arith))

@@ -7,7 +7,7 @@ use Prim.Native.Nat.{ℕ, _-_}
 use lib.Dec.{leb, ltb, eqb}
 use lib.ListN.{length}
 use Rattle.clauses.specs.Register.{registered, registerIn, registerInStore, registerLeft, registerOut, registerStore, registeredNumber}
-use Rattle.promises.specs.Calls.{Call, fresh, load-version-set, load-union, load-candidates, load-disjunction, load-condition, register, mark-hot, set-activity, set-mode, assign, undo-last, undo-until, next-unpropagated, sync, propose, value-of, clause-of, trail-length, copy-trail, copy-candidates, rewrite, disjunct-holds, settings, name-of, leftBy, numberOf}
+use Rattle.imbolaverk.specs.Calls.{Call, fresh, load-version-set, load-union, load-candidates, load-disjunction, load-condition, register, mark-hot, set-activity, set-mode, assign, undo-last, undo-until, next-unpropagated, sync, propose, value-of, clause-of, trail-length, copy-trail, copy-candidates, rewrite, disjunct-holds, settings, name-of, leftBy, numberOf}
 use Rattle.proposal.specs.Propose.{answer, proposalIn, proposalInStore, proposalNumber, proposalOut, proposalStore, told, unsynced}
 use Rattle.requirement.specs.Load.{loadIn, loadInStore, loadLeft, loadOut, loadStore, loadedNumber as tableNumber}
 use Rattle.requirement.specs.Tables.{keyAt}
@@ -25,7 +25,7 @@ use Rattle.tables.specs.Disjunction.{loadDisjunctionIn, loadDisjunctionInStore,
 use Rattle.tables.specs.Union.{loadUnionIn, loadUnionInStore, loadUnionOut, loadUnionStore}
 use Rattle.tables.specs.VersionSet.{loadVersionSetIn, loadVersionSetInStore, loadVersionSetOut, loadVersionSetStore}
 use Rattle.trail.specs.Assign.{assignIn, assignInStore, assignLeft, assignOut, assignStore, assignedNumber}
-use Rattle.trail.specs.Entries.{decisionAt, entries, lastLevelOf}
+use Rattle.trail.specs.Entries.{decisionAt, entries, levelOfLast}
 use Rattle.trail.specs.Next.{nextIn, nextInStore, nextNumber, nextOut, nextStore}
 use Rattle.trail.specs.UndoLast.{popped, undoLastIn, undoLastInStore, undoLastOut, undoLastStore, undoneNumber}
 use Rattle.trail.specs.UndoUntil.{cleared, noStop, poppedTo, undoUntilIn, undoUntilInStore, undoUntilOut, undoUntilStore, untilNumber}
@@ -48,12 +48,11 @@ use Rattle.tables.specs.declared.Loaded.the-variants.{Done, Refused}
 use Rattle.trail.specs.declared.Assigned.{Assigned}
 use Rattle.trail.specs.declared.Assigned.the-variants.{New, Already, Refused as AssignRefused}
 use Rattle.trail.specs.declared.Next.the-variants.{Entry, Nothing as NextNothing, Refused as NextRefused}
-use Rattle.trail.specs.declared.Undone.{Undone}
 use Rattle.trail.specs.declared.Undone.the-variants.{Popped, Refused as UndoRefused}
 use Rattle.trail.specs.declared.Until.the-variants.{Done as UntilDone, Refused as UntilRefused}
 
 -- of a call that is refused on words of unsound shape, and else leaves the words as its answer says
-same-by : {A : Type 0} (number : A → ℕ) (leave : A → List ℕ) (sound : Bool) (answer unsound : A) (w : List ℕ) →
+pub same-by : {A : Type 0} (number : A → ℕ) (leave : A → List ℕ) (sound : Bool) (answer unsound : A) (w : List ℕ) →
     ((x : A) → number x ≢ 0 → leave x ≡ w) → number (cond sound answer unsound) ≢ 0 → cond sound (leave answer) w ≡ w
 same-by number leave true answer unsound w f h = f answer h
 same-by number leave false answer unsound w f h = refl
@@ -155,8 +154,8 @@ module _ (w : List ℕ) where
   unfolding undoLastOut undoLastStore undoLastIn undoLastInStore
   undo-last-same h = go (soundShape w) h
     where
-      go : (b : Bool) → undoneNumber (cond b (cond (ltb (entries w) 2) (UndoRefused 6) (Popped (decisionAt w (entries w - 1)) (lastLevelOf (popped w)))) (UndoRefused 1)) ≢ 0 → cond b (cond (ltb (entries w) 2) w (popped w)) w ≡ w
-      go true n = same-if undoneNumber (ltb (entries w) 2) (UndoRefused 6) (Popped (decisionAt w (entries w - 1)) (lastLevelOf (popped w))) (popped w) w refl n
+      go : (b : Bool) → undoneNumber (cond b (cond (ltb (entries w) 2) (UndoRefused 6) (Popped (decisionAt w (entries w - 1)) (levelOfLast (popped w)))) (UndoRefused 1)) ≢ 0 → cond b (cond (ltb (entries w) 2) w (popped w)) w ≡ w
+      go true n = same-if undoneNumber (ltb (entries w) 2) (UndoRefused 6) (Popped (decisionAt w (entries w - 1)) (levelOfLast (popped w))) (popped w) w refl n
       go false n = refl
 
   undo-until-same : (level : ℕ) → untilNumber (undoUntilOut w level) ≢ 0 → undoUntilStore w level ≡ w
@@ -205,7 +204,6 @@ module _ (w : List ℕ) where
 
 -- THE THEOREM
 pub refused-same : (w : List ℕ) (c : Call) → numberOf w c ≢ 0 → numberOf w c ≢ 8 → leftBy w c ≡ w
-unfolding numberOf leftBy
 refused-same w fresh h n = fresh-same w h
 refused-same w (load-version-set set name) h n = version-set-same w set name h
 refused-same w (load-union union members) h n = union-same w union members h

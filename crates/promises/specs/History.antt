@@ -3,10 +3,10 @@ use mathlib.Core.List.{List, [], _∷_}
 use Prim.Native.Nat.{ℕ}
 use Rattle.clauses.specs.Register.{conditionWord, registerOut}
 use Rattle.evaluate.specs.View.{literalsAt}
-use Rattle.promises.specs.Calls.{Call, fresh, load-version-set, load-union, load-candidates, load-disjunction, load-condition, register, mark-hot, set-activity, set-mode, assign, undo-last, undo-until, next-unpropagated, sync, propose, value-of, clause-of, trail-length, copy-trail, copy-candidates, rewrite, disjunct-holds, settings, name-of, leftBy}
+use Rattle.imbolaverk.specs.Calls.{Call, fresh, load-version-set, load-union, load-candidates, load-disjunction, load-condition, register, mark-hot, set-activity, set-mode, assign, undo-last, undo-until, next-unpropagated, sync, propose, value-of, clause-of, trail-length, copy-trail, copy-candidates, rewrite, disjunct-holds, settings, name-of, ReachedWords, leftBy}
 use Rattle.requirement.specs.Tables.{keyAt}
 use Rattle.rules.specs.Position.{History, filed, noHistory}
-use Rattle.store.specs.Fresh.{freshOut}
+use Rattle.store.specs.Fresh.{freshOut, freshStore}
 use Rattle.clauses.specs.declared.Registered.{Registered}
 use Rattle.clauses.specs.declared.Registered.the-variants.{Done as RegisterDone, Refused as RegisterRefused}
 use Rattle.store.specs.declared.Made.{Made}
@@ -17,6 +17,7 @@ abbrev pub ifRegistered : Registered → History → History → History
 ifRegistered RegisterDone after before = after
 ifRegistered (RegisterRefused n) after before = before
 
+-- a fresh store that was made forgets
 abbrev pub ifMade : Made → History → History → History
 ifMade MadeDone after before = after
 ifMade (MadeRefused n) after before = before
@@ -56,3 +57,7 @@ filing w (name-of name) h = h
 unfoldable pub filings : List ℕ → List Call → History → History
 filings w [] h = h
 filings w (c ∷ cs) h = filings (leftBy w c) cs (filing w c h)
+
+-- all that was filed on the way to reached words
+abbrev pub historyOf : (w : List ℕ) → ReachedWords w → History
+historyOf w r = filings (freshStore (r .found)) (r .calls) noHistory

@@ -1,7 +1,9 @@
 -- WHICH CLAUSES A PROPOSAL DROPS FROM THE QUEUE: those that the walk examines and finds not open; and how many.
 use mathlib.Core.Bool.{Bool, true, false, cond}
 use mathlib.Core.List.{List, [], _∷_}
+use mathlib.Core.Path.{_≡_}
 use Prim.Native.Nat.{ℕ}
+use lib.Dec.{T}
 use lib.ListN.{length}
 use Rattle.evaluate.specs.Standing.{envOf, markOf}
 use Rattle.evaluate.specs.View.{assigned}
@@ -48,6 +50,17 @@ examinedFrom e a (k ∷ ks) =
 -- a clause that is examined where it is queued
 abbrev pub examined : List ℕ → ℕ → Bool
 examined w k = member k (examinedFrom (envOf w) (assigned w) (ranks (at clauseCount 0 w)))
+
+-- a clause of a list is dead, and has this id
+pub record DeadAmong (e : Environment) (a : ℕ → Value) (clause : ℕ) (ranked : List ℕ) : Type 0 where
+  pub rank : ℕ
+  pub met : T (member rank ranked)
+  pub dead : look e a rank ≡ Gone
+  pub id : e .clauseId rank ≡ clause
+
+-- the walk examines a dead clause of this id
+abbrev pub Dies : List ℕ → ℕ → Type 0
+Dies w clause = DeadAmong (envOf w) (assigned w) clause (examinedFrom (envOf w) (assigned w) (ranks (at clauseCount 0 w)))
 
 -- "finds it not open"
 abbrev pub notOpen : Seen → Bool

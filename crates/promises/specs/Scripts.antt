@@ -7,10 +7,10 @@ use lib.Dec.{T}
 use lib.Ieee.{Float, binary32, fin, fits}
 use lib.IntN.{pos}
 use lib.ListN.{replicate}
-use Rattle.promises.specs.Calls.{Call, load-version-set, load-candidates, load-condition, register, mark-hot, set-activity, assign, undo-last, undo-until, sync, propose, value-of, trail-length, rewrite, leftBy, numberOf, valuesOf}
+use Rattle.imbolaverk.specs.Calls.{Call, load-version-set, load-candidates, load-condition, register, mark-hot, set-activity, assign, undo-last, undo-until, sync, propose, value-of, trail-length, rewrite, leftBy, numberOf, valuesOf}
+use Rattle.store.specs.Codes.{noCondition}
 use Rattle.store.specs.Fresh.{freshStore}
 use Rattle.store.specs.Layout.{words}
-use Rattle.store.specs.Limits.{lastWord}
 
 -- what calls answer, one after the other: the number, and behind it the values
 unfoldable pub answers : List ℕ → List Call → List (List ℕ)
@@ -26,33 +26,40 @@ pub record Line : Type 0 where
   pub call : Call
   pub answer : List ℕ
 
+-- a call and what it answers
 abbrev pub _says_ : Call → List ℕ → Line
 c says a = record { call = c; answer = a }
 
 infix 68 _says_
--- the calls of a script, and what they must answer
+-- the calls of a script
 abbrev pub calls : List Line → List Call
 calls = map (λ (l : Line). l .call)
 
+-- the answers of a script
 abbrev pub expected : List Line → List (List ℕ)
 expected = map (λ (l : Line). l .answer)
 
--- done, or refused by a number, with no value; "new"; touches; a proposal, and "nothing"
+-- done, with no value
 abbrev pub done : List ℕ
 done = 0 ∷ []
 
+-- an answer that refuses
 abbrev pub refused : ℕ → List ℕ
 refused n = n ∷ []
 
+-- "new"
 abbrev pub new : List ℕ
 new = 0 ∷ 1 ∷ []
 
+-- so many touches
 abbrev pub touched : ℕ → List ℕ
 touched n = 0 ∷ n ∷ []
 
+-- a proposal
 abbrev pub chosen : (candidate parent clause activity count dropped : ℕ) → List ℕ
 chosen candidate parent clause activity count dropped = 0 ∷ 1 ∷ candidate ∷ parent ∷ clause ∷ activity ∷ count ∷ dropped ∷ []
 
+-- nothing to propose
 abbrev pub nothing : (dropped : ℕ) → List ℕ
 nothing dropped = 0 ∷ 0 ∷ dropped ∷ []
 
@@ -60,31 +67,37 @@ nothing dropped = 0 ∷ 0 ∷ dropped ∷ []
 abbrev pub dead : (clause dropped : ℕ) → List ℕ
 dead clause dropped = 8 ∷ clause ∷ dropped ∷ []
 
--- 2.0, its bits, and 5.0
+-- 2.0
 abbrev pub two : Float
 two = fin false 1 (pos 1)
 
+-- the bits of 2.0
 abbrev pub bitsOfTwo : ℕ
 bitsOfTwo = 1073741824
 
+-- 5.0
 abbrev pub five : Float
 five = fin false 5 (pos 0)
 
+-- 2.0 is an f32
 pub two-fits : T (fits binary32 two)
 unfolding fits
 two-fits = tt
 
+-- 5.0 is an f32
 pub five-fits : T (fits binary32 five)
 unfolding fits
 five-fits = tt
 
--- a clause of a parent and a single, with no condition; a variable made true, and false
+-- a clause of a parent and a single, with no condition
 abbrev pub clause : (parent single id : ℕ) → Line
-clause parent single id = register parent 0 single lastWord id says done
+clause parent single id = register parent 0 single noCondition id says done
 
+-- a variable is assigned true at a level, for clause 0
 abbrev pub true-at : (level variable : ℕ) → Line
 true-at level variable = assign variable 1 level 0 says new
 
+-- and false
 abbrev pub false-at : (level variable : ℕ) → Line
 false-at level variable = assign variable 0 level 0 says new
 

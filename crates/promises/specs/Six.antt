@@ -1,5 +1,5 @@
--- THE SIX THINGS of demand 3: "the clauses, tables, activities, hot names, mode and present assignments alone"; and a proposal with "the
--- drop count aside".
+-- THE SIX THINGS of demand 3: clauses, tables, activities, hot names, mode and present assignments; and a proposal with the "drop count
+-- aside".
 use mathlib.Core.List.{List}
 use mathlib.Core.Path.{_≡_}
 use Prim.Native.Nat.{ℕ}
@@ -26,11 +26,12 @@ pub record SameButMode (w u : List ℕ) : Type 0 where
   pub hot-same : (name : ℕ) → at hotNames name w ≡ at hotNames name u
   pub assignments-same : (variable : ℕ) → assigned w variable ≡ assigned u variable
 
+-- all six
 pub record SameSix (w u : List ℕ) : Type 0 where
   pub but-mode : SameButMode w u
   pub mode-same : at mode 0 w ≡ at mode 0 u
 
--- "the drop count aside"
+-- "drop count aside"
 abbrev pub undropped : Proposal → Proposal
 undropped (Chosen candidate parent clause activity count dropped) = Chosen candidate parent clause activity count 0
 undropped (NoneOpen dropped) = NoneOpen 0
