@@ -1,48 +1,44 @@
-// Document 01's edges that are shown by running: the largest level, the largest rewritten condition, and one step beyond each.
+// Document 01's edges that are shown by running: the largest level, the largest rewritten condition, the last clause, and one step beyond
+// each.
+use clauses::Registered;
 use conditions::Rewritten;
-use libc::STDOUT_FILENO;
+use script::say;
+use store::codes;
+use store::limits;
 use tables::Loaded;
 use trail::Assigned;
 use trail::Until;
 
-fn say(text: &[u8]) {
-    io::write_all(STDOUT_FILENO, text);
-}
+// The most terms that a rewritten condition has.
+const TERMS: usize = limits::MOST_TERMS;
 
-fn say_number(n: u32) {
-    io::print_decimal(STDOUT_FILENO, n as u64);
-}
-
-fn say_refused(n: u32) {
-    say(b"refused ");
-    say_number(n);
-    say(b"\n");
-}
+// The most version sets that they have together.
+const SETS: usize = TERMS * limits::MOST_SETS;
 
 fn say_assigned(answer: Assigned) {
     match answer {
-        Assigned::New => say(b"new\n"),
-        Assigned::Already => say(b"already\n"),
-        Assigned::Refused(n) => say_refused(n),
+        Assigned::New => say::text(b"new\n"),
+        Assigned::Already => say::text(b"already\n"),
+        Assigned::Refused(n) => say::refused(n),
     }
 }
 
 fn say_until(answer: Until) {
     match answer {
-        Until::Done => say(b"done\n"),
-        Until::Refused(n) => say_refused(n),
+        Until::Done => say::text(b"done\n"),
+        Until::Refused(n) => say::refused(n),
     }
 }
 
 fn say_rewritten(answer: Rewritten) {
     match answer {
         Rewritten::Terms { terms, cells } => {
-            say_number(terms);
-            say(b" terms of ");
-            say_number(cells);
-            say(b" version sets together\n");
+            say::number(terms);
+            say::text(b" terms of");
+            say::word(cells);
+            say::text(b" version sets together\n");
         }
-        Rewritten::Refused(n) => say_refused(n),
+        Rewritten::Refused(n) => say::refused(n),
     }
 }
 
@@ -50,7 +46,7 @@ fn say_rewritten(answer: Rewritten) {
 fn expect_loaded(answer: Loaded) {
     match answer {
         Loaded::Done => {}
-        Loaded::Refused(n) => say_refused(n),
+        Loaded::Refused(n) => say::refused(n),
     }
 }
 
@@ -87,45 +83,82 @@ fn load_deep(words: &mut [u32]) {
 }
 
 fn try_levels(words: &mut [u32]) {
-    say(b"level 2,147,483,647: ");
+    say::text(b"level 2,147,483,647: ");
     say_assigned(trail::assign(words, 0, 1, 2_147_483_647, 10));
-    say(b"level 2,147,483,648: ");
+    say::text(b"level 2,147,483,648: ");
     say_assigned(trail::assign(words, 1, 1, 2_147_483_648, 10));
-    say(b"one entry at that level, undo-until 1: ");
+    say::text(b"one entry at that level, undo-until 1: ");
     say_until(trail::undo_until(words, 1));
 }
 
 fn try_rewriting(words: &[u32], node: u32) {
-    let mut lengths = [0u32; 64];
-    let mut cells = [0u32; 1_024];
+    let mut lengths = [0u32; TERMS];
+    let mut cells = [0u32; SETS];
     say_rewritten(conditions::rewrite(words, node, &mut lengths, &mut cells));
 }
 
 fn try_short(words: &[u32], node: u32) {
-    let mut lengths = [0u32; 63];
-    let mut cells = [0u32; 1_024];
+    let mut lengths = [0u32; TERMS - 1];
+    let mut cells = [0u32; SETS];
     say_rewritten(conditions::rewrite(words, node, &mut lengths, &mut cells));
 }
 
 fn try_conditions(words: &[u32]) {
-    say(b"64 terms: ");
+    say::text(b"64 terms: ");
     try_rewriting(words, 7);
-    say(b"65 terms: ");
+    say::text(b"65 terms: ");
     try_rewriting(words, 8);
-    say(b"a term of 16: ");
+    say::text(b"a term of 16: ");
     try_rewriting(words, 12);
-    say(b"a term of 17: ");
+    say::text(b"a term of 17: ");
     try_rewriting(words, 13);
-    say(b"64 terms, 63 places: ");
+    say::text(b"64 terms, 63 places: ");
     try_short(words, 7);
 }
 
+fn say_registered(answer: Registered) {
+    match answer {
+        Registered::Done => say::text(b"done\n"),
+        Registered::Refused(n) => say::refused(n),
+    }
+}
+
+fn load_candidates(words: &mut [u32]) {
+    match requirement::load_candidates(words, 0, 0, &[1], &[1]) {
+        requirement::Loaded::Done => {}
+        requirement::Loaded::Refused(n) => say::refused(n),
+    }
+}
+
+// A clause of the root that needs version set 0, on no condition.
+fn register(words: &mut [u32; limits::WORD_ROOM]) -> Registered {
+    clauses::register(words, codes::ROOT, 0, 0, codes::NO_CONDITION, 10)
+}
+
+fn register_many(words: &mut [u32; limits::WORD_ROOM], n: usize) {
+    let mut i: usize = 0;
+    while i < n {
+        register(words);
+        i += 1;
+    }
+}
+
+fn try_clauses(words: &mut [u32; limits::WORD_ROOM]) {
+    load_candidates(words);
+    register_many(words, limits::CLAUSES - 1);
+    say::text(b"clause 512: ");
+    say_registered(register(words));
+    say::text(b"clause 513: ");
+    say_registered(register(words));
+}
+
 fn main() {
-    let mut words = [0u32; 16_384];
+    let mut words = [0u32; limits::WORD_ROOM];
     store::fresh::fresh(&mut words);
     try_levels(&mut words);
     load_leaves(&mut words);
     load_wide(&mut words);
     load_deep(&mut words);
     try_conditions(&words);
+    try_clauses(&mut words);
 }

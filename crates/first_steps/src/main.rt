@@ -1,65 +1,47 @@
 // First steps on a store: how many words it needs, a fresh one, two assignments, one of them taken back.
-use libc::STDOUT_FILENO;
+use script::say;
+use store::areas;
+use store::limits;
 use trail::Assigned;
 use trail::Undone;
 use trail::Valued;
 
-fn say(text: &[u8]) {
-    io::write_all(STDOUT_FILENO, text);
-}
-
-fn say_number(n: u32) {
-    io::print_decimal(STDOUT_FILENO, n as u64);
-}
-
-fn say_refused(n: u32) {
-    say(b"refused ");
-    say_number(n);
-    say(b"\n");
-}
-
 fn say_assigned(answer: Assigned) {
     match answer {
-        Assigned::New => say(b"new\n"),
-        Assigned::Already => say(b"already\n"),
-        Assigned::Refused(n) => say_refused(n),
+        Assigned::New => say::text(b"new\n"),
+        Assigned::Already => say::text(b"already\n"),
+        Assigned::Refused(n) => say::refused(n),
     }
 }
 
 fn say_undone(answer: Undone) {
     match answer {
         Undone::Popped(decision, level) => {
-            say(b"popped variable ");
-            say_number(decision.variable);
-            say(b" of clause ");
-            say_number(decision.clause);
-            say(b"; the last entry is at level ");
-            say_number(level);
-            say(b"\n");
+            say::text(b"popped variable");
+            say::word(decision.variable);
+            say::text(b" of clause");
+            say::word(decision.clause);
+            say::named(b"; the last entry is at level", level);
         }
-        Undone::Refused(n) => say_refused(n),
+        Undone::Refused(n) => say::refused(n),
     }
 }
 
 fn say_value(answer: Valued) {
     match answer {
         Valued::Decided { value, level } => {
-            say(b"value ");
-            say_number(value);
-            say(b" at level ");
-            say_number(level);
-            say(b"\n");
+            say::text(b"value");
+            say::word(value);
+            say::named(b" at level", level);
         }
-        Valued::Open => say(b"undecided\n"),
-        Valued::Refused(n) => say_refused(n),
+        Valued::Undecided => say::text(b"undecided\n"),
+        Valued::Refused(n) => say::refused(n),
     }
 }
 
 fn main() {
-    say(b"words of a store: ");
-    io::print_decimal(STDOUT_FILENO, store::areas::WORDS as u64);
-    say(b"\n");
-    let mut words = [0u32; 16_384];
+    say::named(b"words of a store:", areas::WORDS as u32);
+    let mut words = [0u32; limits::WORD_ROOM];
     store::fresh::fresh(&mut words);
     say_assigned(trail::assign(&mut words, 0, 1, 1, 10));
     say_assigned(trail::assign(&mut words, 7, 0, 2, 11));
@@ -68,5 +50,5 @@ fn main() {
     say_undone(trail::undo_last(&mut words));
     say_value(trail::value_of(&words, 7));
     say_undone(trail::undo_last(&mut words));
-    say_value(trail::value_of(&words, 512));
+    say_value(trail::value_of(&words, limits::VARIABLES as u32));
 }

@@ -1,5 +1,8 @@
 // The line that is being read.
 
+// The longest line that is kept whole.
+pub const MOST_BYTES: usize = 16_384;
+
 // Its number from 1, how many bytes of it are kept, whether more came than are kept, and whether the input is over.
 pub struct Line {
     pub number: u64,
@@ -37,9 +40,9 @@ pub fn over(line: Line) -> Line {
 }
 
 // Keeps one more byte, if there is room.
-pub fn keep(bytes: &mut [u8; 16_384], line: Line, byte: u8) -> Line {
+pub fn keep(bytes: &mut [u8; MOST_BYTES], line: Line, byte: u8) -> Line {
     let kept = line.kept;
-    if kept < 16_384 {
+    if kept < MOST_BYTES {
         bytes[kept] = byte;
         return Line {
             number: line.number,

@@ -1,11 +1,16 @@
-// The words that are no numbers. Each has a code above every u32.
+// The words that are no numbers. Each has a code above every u32, and calls of one kind stand together.
+use store::limits;
 
-pub const FIRST: u64 = 4_294_967_296;
+// The code of the first of them.
+pub const FIRST: u64 = limits::LAST_WORD as u64 + 1;
 
+// Any other word.
 pub const UNKNOWN: u64 = FIRST;
 
+// A word that begins like a number and is no u32.
 pub const NO_NUMBER: u64 = FIRST + 1;
 
+// A word that begins with #.
 pub const COMMENT: u64 = FIRST + 2;
 
 pub const SEMICOLON: u64 = FIRST + 3;
@@ -87,85 +92,7 @@ fn same(a: &[u8], b: &[u8]) -> bool {
     true
 }
 
-fn short_code(word: &[u8]) -> u64 {
-    if same(word, b";") {
-        return SEMICOLON;
-    }
-    if same(word, b"-") {
-        return DASH;
-    }
-    if same(word, b"none") {
-        return NONE;
-    }
-    if same(word, b"s") {
-        return SINGLE;
-    }
-    if same(word, b"u") {
-        return UNION_KIND;
-    }
-    if same(word, b"leaf") {
-        return LEAF;
-    }
-    if same(word, b"and") {
-        return AND;
-    }
-    if same(word, b"or") {
-        return OR;
-    }
-    pack_code(word)
-}
-
-fn pack_code(word: &[u8]) -> u64 {
-    if same(word, b"fresh") {
-        return FRESH;
-    }
-    if same(word, b"vs") {
-        return VS;
-    }
-    if same(word, b"union") {
-        return UNION;
-    }
-    if same(word, b"cand") {
-        return CAND;
-    }
-    if same(word, b"lookup") {
-        return LOOKUP;
-    }
-    if same(word, b"disj") {
-        return DISJ;
-    }
-    if same(word, b"node") {
-        return NODE;
-    }
-    clause_code(word)
-}
-
-fn clause_code(word: &[u8]) -> u64 {
-    if same(word, b"register") {
-        return REGISTER;
-    }
-    if same(word, b"hot") {
-        return HOT;
-    }
-    if same(word, b"activity") {
-        return ACTIVITY;
-    }
-    if same(word, b"mode") {
-        return MODE;
-    }
-    if same(word, b"dnf") {
-        return DNF;
-    }
-    if same(word, b"holds") {
-        return HOLDS;
-    }
-    if same(word, b"help") {
-        return HELP;
-    }
-    UNKNOWN
-}
-
-// The words of the calls that a day is full of, which are looked for first.
+// The code of a word. The calls that a day is full of are looked for first.
 pub fn code(word: &[u8]) -> u64 {
     if same(word, b"assign") {
         return ASSIGN;
@@ -197,5 +124,86 @@ pub fn code(word: &[u8]) -> u64 {
     if same(word, b"propose") {
         return PROPOSE;
     }
-    short_code(word)
+    mark_code(word)
+}
+
+// Kinds, and what stands between or for numbers.
+fn mark_code(word: &[u8]) -> u64 {
+    if same(word, b";") {
+        return SEMICOLON;
+    }
+    if same(word, b"-") {
+        return DASH;
+    }
+    if same(word, b"none") {
+        return NONE;
+    }
+    if same(word, b"s") {
+        return SINGLE;
+    }
+    if same(word, b"u") {
+        return UNION_KIND;
+    }
+    if same(word, b"leaf") {
+        return LEAF;
+    }
+    if same(word, b"and") {
+        return AND;
+    }
+    if same(word, b"or") {
+        return OR;
+    }
+    pack_code(word)
+}
+
+// Calls that load.
+fn pack_code(word: &[u8]) -> u64 {
+    if same(word, b"fresh") {
+        return FRESH;
+    }
+    if same(word, b"vs") {
+        return VS;
+    }
+    if same(word, b"union") {
+        return UNION;
+    }
+    if same(word, b"cand") {
+        return CAND;
+    }
+    if same(word, b"lookup") {
+        return LOOKUP;
+    }
+    if same(word, b"disj") {
+        return DISJ;
+    }
+    if same(word, b"node") {
+        return NODE;
+    }
+    other_code(word)
+}
+
+// The calls that are left.
+fn other_code(word: &[u8]) -> u64 {
+    if same(word, b"register") {
+        return REGISTER;
+    }
+    if same(word, b"hot") {
+        return HOT;
+    }
+    if same(word, b"activity") {
+        return ACTIVITY;
+    }
+    if same(word, b"mode") {
+        return MODE;
+    }
+    if same(word, b"dnf") {
+        return DNF;
+    }
+    if same(word, b"holds") {
+        return HOLDS;
+    }
+    if same(word, b"help") {
+        return HELP;
+    }
+    UNKNOWN
 }

@@ -58,16 +58,32 @@ fn numbers(cells: &[u32]) {
     }
 }
 
-// List j of some lists, which begins at `start`, and where the next one begins. An empty list is a blank, unless it ends the line.
+// How long list j is, 0 where there is none.
+fn length(lengths: &[u32], j: usize) -> usize {
+    if j < lengths.len() {
+        return store::wide(lengths[j]);
+    }
+    0
+}
+
+// The cells from `start` on, or all where there are fewer.
+fn rest(cells: &[u32], start: usize) -> &[u32] {
+    if start <= cells.len() {
+        return &cells[start..];
+    }
+    cells
+}
+
+// List j, which begins at `start`. Answers where the next one begins. An empty list is a blank, unless it ends the line.
 fn list(lengths: &[u32], cells: &[u32], j: usize, start: usize) -> usize {
-    let n = parts::at(lengths, j);
+    let n = length(lengths, j);
     if 0 < j {
         text(b" ;");
     }
     if n == 0 {
         gap(j, lengths.len());
     }
-    numbers(parts::first(parts::rest(cells, start), n));
+    numbers(parts::first(rest(cells, start), n));
     std::num::wrapping_add_usize(start, n)
 }
 

@@ -1,6 +1,10 @@
 // The words of a line, each as one number: a decimal u32 as itself, any other word as its code in `names`.
 ghost use mathlib.Core.Path.{_≡_};
+use crate::lines::MOST_BYTES;
 use crate::names;
+
+// The most words that a line has, since a blank stands between any two.
+pub const MOST_WORDS: usize = MOST_BYTES / 2;
 
 fn is_blank(byte: u8) -> bool {
     byte == b' ' || byte == b'\t' || byte == b'\r'
@@ -61,11 +65,17 @@ fn code(word: &[u8]) -> u64 {
 }
 
 // Takes the word that stands from `start` to `end`, if there is one, behind the `count` taken before.
-fn take(line: &[u8], start: usize, end: usize, t: &mut [u64; 8_192], count: usize) -> usize {
+fn take(
+    bytes: &[u8],
+    start: usize,
+    end: usize,
+    line: &mut [u64; MOST_WORDS],
+    count: usize,
+) -> usize {
     if start < end {
-        if end <= line.len() {
-            if count < 8_192 {
-                t[count] = code(&line[start..end]);
+        if end <= bytes.len() {
+            if count < MOST_WORDS {
+                line[count] = code(&bytes[start..end]);
                 return count + 1;
             }
         }
@@ -73,19 +83,19 @@ fn take(line: &[u8], start: usize, end: usize, t: &mut [u64; 8_192], count: usiz
     count
 }
 
-// The words of a line, and how many there are: a line of 16,384 bytes has no more than 8,192.
-pub fn scan(line: &[u8], t: &mut [u64; 8_192]) -> usize {
+// Fills in the words of a line's bytes, and answers how many there are.
+pub fn scan(bytes: &[u8], line: &mut [u64; MOST_WORDS]) -> usize {
     let mut count: usize = 0;
     let mut start: usize = 0;
     let mut i: usize = 0;
-    while i < line.len() {
-        if is_blank(line[i]) {
-            count = take(line, start, i, t, count);
+    while i < bytes.len() {
+        if is_blank(bytes[i]) {
+            count = take(bytes, start, i, line, count);
             start = i + 1;
         }
         i += 1;
     }
-    take(line, start, line.len(), t, count)
+    take(bytes, start, bytes.len(), line, count)
 }
 
 pub fn is_number(word: u64) -> bool {
@@ -93,18 +103,35 @@ pub fn is_number(word: u64) -> bool {
 }
 
 // Word i, which is unknown where there is none.
-pub fn word(t: &[u64], i: usize) -> u64 {
-    if i < t.len() {
-        return t[i];
+pub fn word(line: &[u64], i: usize) -> u64 {
+    if i < line.len() {
+        return line[i];
     }
     names::UNKNOWN
 }
 
 // Word i as a number, 0 where it is none.
-pub fn number(t: &[u64], i: usize) -> u32 {
-    let found = word(t, i);
+pub fn number(line: &[u64], i: usize) -> u32 {
+    let found = word(line, i);
     if found < names::FIRST {
         return found as u32;
     }
     0
+}
+
+// Word i as the kind of a requirement.
+pub fn requirement_kind(line: &[u64], i: usize) -> u32 {
+    if word(line, i) == names::SINGLE {
+        return 0;
+    }
+    1
+}
+
+// Word i as the kind of a condition node.
+pub fn node_kind(line: &[u64], i: usize) -> u32 {
+    match word(line, i) {
+        names::LEAF => 0,
+        names::AND => 1,
+        _ => 2,
+    }
 }

@@ -1,25 +1,23 @@
-// One line: which call it is, and what is said where it is none.
-use crate::asks;
+// One line: the call that is made, and what is said where it is none.
 use crate::clause;
 use crate::decisions;
 use crate::packs;
+use crate::queue;
 use crate::terms;
 use script::forms;
 use script::forms::Heard;
 use script::names;
 use script::say;
 use script::words;
+use script::words::MOST_WORDS;
 use store::Made;
+use store::limits::WORD_ROOM;
 
-fn fresh(s: &mut [u32; 16_384], t: &[u64]) -> Heard {
-    let heard = forms::fits(t, b"");
-    if let Heard::Well = heard {
-        match store::fresh::fresh(s) {
-            Made::Done => say::ok(),
-            Made::Refused(n) => say::refused(n),
-        }
+fn say_made(answer: Made) {
+    match answer {
+        Made::Done => say::ok(),
+        Made::Refused(n) => say::refused(n),
     }
-    heard
 }
 
 fn help_packs() {
@@ -33,17 +31,6 @@ fn help_packs() {
     say::text(b"dnf N [TERMS CELLS]\n");
 }
 
-fn help_queue() {
-    say::text(b"register PARENT s|u REQ COND|- CLAUSE\n");
-    say::text(b"hot NAME\n");
-    say::text(b"activity NAME BITS\n");
-    say::text(b"mode 1|0\n");
-    say::text(b"sync\n");
-    say::text(b"propose\n");
-    say::text(b"holds K c c ; K c ..\n");
-    say::text(b"help\n");
-}
-
 fn help_trail() {
     say::text(b"assign VAR 0|1 LEVEL CLAUSE\n");
     say::text(b"undo_last\n");
@@ -55,66 +42,65 @@ fn help_trail() {
     say::text(b"trail [ROOM]\n");
 }
 
-fn help(t: &[u64]) -> Heard {
-    let heard = forms::fits(t, b"");
-    if let Heard::Well = heard {
-        help_packs();
-        help_trail();
-        help_queue();
-    }
-    heard
+fn help_queue() {
+    say::text(b"register PARENT s|u REQ COND|- CLAUSE\n");
+    say::text(b"hot NAME\n");
+    say::text(b"activity NAME BITS\n");
+    say::text(b"mode 1|0\n");
+    say::text(b"sync\n");
+    say::text(b"propose\n");
+    say::text(b"holds K c c ; K c ..\n");
+    say::text(b"help\n");
 }
 
-// Makes the call of the first word.
-fn make(s: &mut [u32; 16_384], t: &[u64], call: u64) -> Heard {
+fn help() {
+    help_packs();
+    help_trail();
+    help_queue();
+}
+
+// Makes the call of a line that has its form.
+fn make(s: &mut [u32; WORD_ROOM], line: &[u64]) {
+    let call = words::word(line, 0);
     match call {
-        names::FRESH => fresh(s, t),
-        names::VS..=names::NODE => packs::make(s, t, call),
-        names::REGISTER..=names::MODE => clause::make(s, t, call),
-        names::ASSIGN..=names::TRAIL => decisions::make(s, t, call),
-        names::SYNC => asks::sync(s, t),
-        names::PROPOSE => asks::propose(s, t),
-        names::DNF => terms::dnf(s, t),
-        names::HOLDS => terms::holds(s, t),
-        names::HELP => help(t),
-        _ => Heard::NoSuchCall,
+        names::FRESH => say_made(store::fresh::fresh(s)),
+        names::VS..=names::NODE => packs::make(s, line, call),
+        names::REGISTER..=names::MODE => clause::make(s, line, call),
+        names::ASSIGN..=names::TRAIL => decisions::make(s, line, call),
+        names::SYNC..=names::PROPOSE => queue::make(s, call),
+        names::DNF..=names::HOLDS => terms::make(s, line, call),
+        _ => help(),
     }
 }
 
-// What is said of a line that was not heard well.
-fn explain(heard: Heard, line: u64) {
-    match heard {
-        Heard::Well => {}
-        Heard::NoSuchCall => say::bad_line(line, b"no such call, see help"),
-        Heard::WrongCount => say::bad_line(line, b"too few or too many words, see help"),
-        Heard::NoNumber => say::bad_line(line, b"a number from 0 to 4294967295 is missing"),
-        Heard::WrongWord => say::bad_line(line, b"a word that this call does not take"),
-    }
-}
-
-fn answer_words(s: &mut [u32; 16_384], t: &[u64], line: u64) {
-    let call = words::word(t, 0);
-    if call != names::COMMENT {
-        explain(make(s, t, call), line);
+fn answer_words(s: &mut [u32; WORD_ROOM], line: &[u64], number: u64) {
+    match forms::hear(line) {
+        Heard::Well => make(s, line),
+        Heard::Comment => {}
+        Heard::NoSuchCall => say::bad_line(number, b"no such call, see help"),
+        Heard::WrongCount => say::bad_line(number, b"too few or too many words, see help"),
+        Heard::NoNumber => say::bad_line(number, b"a number from 0 to 4294967295 is missing"),
+        Heard::WrongWord => say::bad_line(number, b"a word that this call does not take"),
     }
 }
 
 // Answers the first n words.
-fn answer_first(s: &mut [u32; 16_384], t: &[u64], n: usize, line: u64) {
+fn answer_first(s: &mut [u32; WORD_ROOM], line: &[u64], n: usize, number: u64) {
     if 0 < n {
-        if n <= t.len() {
-            answer_words(s, &t[0..n], line);
+        if n <= line.len() {
+            answer_words(s, &line[0..n], number);
         }
     }
 }
 
-fn answer_scanned(s: &mut [u32; 16_384], t: &[u64; 8_192], n: usize, line: u64) {
-    answer_first(s, t, n, line);
+// The same of an array.
+fn answer_first_of(s: &mut [u32; WORD_ROOM], line: &[u64; MOST_WORDS], n: usize, number: u64) {
+    answer_first(s, line, n, number);
 }
 
-// Makes the call of a line and says its answer. A line of blanks or a comment has none.
-pub fn answer(s: &mut [u32; 16_384], bytes: &[u8], line: u64) {
-    let mut t = [0u64; 8_192];
-    let n = words::scan(bytes, &mut t);
-    answer_scanned(s, &t, n, line);
+// Makes the call of line `number` and says its answer. A line of blanks or a comment has none.
+pub fn answer(s: &mut [u32; WORD_ROOM], bytes: &[u8], number: u64) {
+    let mut line = [0u64; MOST_WORDS];
+    let n = words::scan(bytes, &mut line);
+    answer_first_of(s, &line, n, number);
 }

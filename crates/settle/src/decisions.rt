@@ -1,10 +1,10 @@
 // Calls on the trail: assign, undo_last, undo_until, next, clause_of, value_of, level_of, trail.
 use crate::whole_trail;
-use script::forms;
-use script::forms::Heard;
 use script::names;
 use script::say;
 use script::words;
+use store::limits;
+use store::limits::WORD_ROOM;
 use trail::Assigned;
 use trail::Cause;
 use trail::Decision;
@@ -21,18 +21,14 @@ fn say_assigned(answer: Assigned) {
     }
 }
 
-fn assign(s: &mut [u32; 16_384], t: &[u64]) -> Heard {
-    let heard = forms::fits(t, b"nnnn");
-    if let Heard::Well = heard {
-        say_assigned(trail::assign(
-            s,
-            words::number(t, 1),
-            words::number(t, 2),
-            words::number(t, 3),
-            words::number(t, 4),
-        ));
-    }
-    heard
+fn assign(s: &mut [u32; WORD_ROOM], line: &[u64]) {
+    say_assigned(trail::assign(
+        s,
+        words::number(line, 1),
+        words::number(line, 2),
+        words::number(line, 3),
+        words::number(line, 4),
+    ));
 }
 
 fn say_decision(name: &[u8], decision: Decision) {
@@ -53,27 +49,11 @@ fn say_undone(answer: Undone) {
     }
 }
 
-fn undo_last(s: &mut [u32; 16_384], t: &[u64]) -> Heard {
-    let heard = forms::fits(t, b"");
-    if let Heard::Well = heard {
-        say_undone(trail::undo_last(s));
-    }
-    heard
-}
-
 fn say_until(answer: Until) {
     match answer {
         Until::Done => say::ok(),
         Until::Refused(n) => say::refused(n),
     }
-}
-
-fn undo_until(s: &mut [u32; 16_384], t: &[u64]) -> Heard {
-    let heard = forms::fits(t, b"n");
-    if let Heard::Well = heard {
-        say_until(trail::undo_until(s, words::number(t, 1)));
-    }
-    heard
 }
 
 fn say_next(answer: Next) {
@@ -87,14 +67,6 @@ fn say_next(answer: Next) {
     }
 }
 
-fn next(s: &mut [u32; 16_384], t: &[u64]) -> Heard {
-    let heard = forms::fits(t, b"");
-    if let Heard::Well = heard {
-        say_next(trail::next_unpropagated(s));
-    }
-    heard
-}
-
 fn say_cause(answer: Cause) {
     match answer {
         Cause::Clause(clause) => say::named(b"clause", clause),
@@ -103,74 +75,40 @@ fn say_cause(answer: Cause) {
     }
 }
 
-fn clause_of(s: &[u32; 16_384], t: &[u64]) -> Heard {
-    let heard = forms::fits(t, b"n");
-    if let Heard::Well = heard {
-        say_cause(trail::clause_of(s, words::number(t, 1)));
-    }
-    heard
-}
-
 fn say_value(answer: Valued) {
     match answer {
         Valued::Decided { value, level: _ } => say::named(b"value", value),
-        Valued::Open => say::text(b"value -\n"),
+        Valued::Undecided => say::text(b"value -\n"),
         Valued::Refused(n) => say::refused(n),
     }
-}
-
-fn value_of(s: &[u32; 16_384], t: &[u64]) -> Heard {
-    let heard = forms::fits(t, b"n");
-    if let Heard::Well = heard {
-        say_value(trail::value_of(s, words::number(t, 1)));
-    }
-    heard
 }
 
 fn say_level(answer: Valued) {
     match answer {
         Valued::Decided { value: _, level } => say::named(b"level", level),
-        Valued::Open => say::named(b"level", 0),
+        Valued::Undecided => say::named(b"level", 0),
         Valued::Refused(n) => say::refused(n),
     }
 }
 
-fn level_of(s: &[u32; 16_384], t: &[u64]) -> Heard {
-    let heard = forms::fits(t, b"n");
-    if let Heard::Well = heard {
-        say_level(trail::value_of(s, words::number(t, 1)));
+// The room of the list that the trail is copied to: word 1, or where there is none all that it can need.
+fn room(line: &[u64]) -> u32 {
+    if line.len() == 2 {
+        return words::number(line, 1);
     }
-    heard
+    limits::TRAIL_ROOM as u32
 }
 
-fn trail_in(s: &[u32; 16_384], t: &[u64]) -> Heard {
-    let heard = forms::fits(t, b"n");
-    if let Heard::Well = heard {
-        whole_trail::tell(s, words::number(t, 1));
-    }
-    heard
-}
-
-fn whole(s: &[u32; 16_384], t: &[u64]) -> Heard {
-    if t.len() == 2 {
-        return trail_in(s, t);
-    }
-    let heard = forms::fits(t, b"");
-    if let Heard::Well = heard {
-        whole_trail::tell(s, 512);
-    }
-    heard
-}
-
-pub fn make(s: &mut [u32; 16_384], t: &[u64], call: u64) -> Heard {
+pub fn make(s: &mut [u32; WORD_ROOM], line: &[u64], call: u64) {
+    let first = words::number(line, 1);
     match call {
-        names::ASSIGN => assign(s, t),
-        names::UNDO_LAST => undo_last(s, t),
-        names::UNDO_UNTIL => undo_until(s, t),
-        names::NEXT => next(s, t),
-        names::CLAUSE_OF => clause_of(s, t),
-        names::VALUE_OF => value_of(s, t),
-        names::LEVEL_OF => level_of(s, t),
-        _ => whole(s, t),
+        names::ASSIGN => assign(s, line),
+        names::UNDO_LAST => say_undone(trail::undo_last(s)),
+        names::UNDO_UNTIL => say_until(trail::undo_until(s, first)),
+        names::NEXT => say_next(trail::next_unpropagated(s)),
+        names::CLAUSE_OF => say_cause(trail::clause_of(s, first)),
+        names::VALUE_OF => say_value(trail::value_of(s, first)),
+        names::LEVEL_OF => say_level(trail::value_of(s, first)),
+        _ => whole_trail::say_trail(s, room(line)),
     }
 }

@@ -1,25 +1,27 @@
 // Reads calls line by line from standard input, makes them on one store, and writes one answer line for each. `help` lists them.
 mod answer;
-mod asks;
 mod clause;
 mod decisions;
 mod packs;
+mod queue;
 mod terms;
 mod whole_trail;
 
 use libc::STDIN_FILENO;
 use script::lines;
 use script::lines::Line;
+use script::lines::MOST_BYTES;
 use script::say;
+use store::limits::WORD_ROOM;
 
-fn answer_first(s: &mut [u32; 16_384], bytes: &[u8], kept: usize, number: u64) {
+fn answer_first(s: &mut [u32; WORD_ROOM], bytes: &[u8], kept: usize, number: u64) {
     if kept <= bytes.len() {
         answer::answer(s, &bytes[0..kept], number);
     }
 }
 
 // Answers the line that has ended.
-fn end_line(s: &mut [u32; 16_384], bytes: &[u8; 16_384], line: Line) -> Line {
+fn end_line(s: &mut [u32; WORD_ROOM], bytes: &[u8; MOST_BYTES], line: Line) -> Line {
     if line.is_long {
         say::bad_line(line.number, b"longer than 16,384 bytes");
     } else {
@@ -28,14 +30,19 @@ fn end_line(s: &mut [u32; 16_384], bytes: &[u8; 16_384], line: Line) -> Line {
     lines::next(line)
 }
 
-fn take_byte(s: &mut [u32; 16_384], bytes: &mut [u8; 16_384], line: Line, byte: u8) -> Line {
+fn take_byte(s: &mut [u32; WORD_ROOM], bytes: &mut [u8; MOST_BYTES], line: Line, byte: u8) -> Line {
     if byte == b'\n' {
         return end_line(s, bytes, line);
     }
     lines::keep(bytes, line, byte)
 }
 
-fn take_bytes(s: &mut [u32; 16_384], bytes: &mut [u8; 16_384], first: Line, chunk: &[u8]) -> Line {
+fn take_bytes(
+    s: &mut [u32; WORD_ROOM],
+    bytes: &mut [u8; MOST_BYTES],
+    first: Line,
+    chunk: &[u8],
+) -> Line {
     let mut line = first;
     let mut i: usize = 0;
     while i < chunk.len() {
@@ -46,7 +53,7 @@ fn take_bytes(s: &mut [u32; 16_384], bytes: &mut [u8; 16_384], first: Line, chun
 }
 
 // Reads once, and answers the lines that end in what came.
-fn read_some(s: &mut [u32; 16_384], bytes: &mut [u8; 16_384], line: Line) -> Line {
+fn read_some(s: &mut [u32; WORD_ROOM], bytes: &mut [u8; MOST_BYTES], line: Line) -> Line {
     let mut chunk = io::buffer();
     let got = libc::read(STDIN_FILENO, &mut chunk);
     if got <= 0 {
@@ -57,7 +64,7 @@ fn read_some(s: &mut [u32; 16_384], bytes: &mut [u8; 16_384], line: Line) -> Lin
 }
 
 // Nothing says that the input ends, so the turns are counted down from a number that no run uses up.
-fn read_all(s: &mut [u32; 16_384], bytes: &mut [u8; 16_384]) -> Line {
+fn read_all(s: &mut [u32; WORD_ROOM], bytes: &mut [u8; MOST_BYTES]) -> Line {
     let mut line = lines::first();
     let mut turns = u64::MAX;
     while turns > 0 && !line.is_over {
@@ -68,8 +75,8 @@ fn read_all(s: &mut [u32; 16_384], bytes: &mut [u8; 16_384]) -> Line {
 }
 
 fn main() {
-    let mut words = [0u32; 16_384];
-    let mut bytes = [0u8; 16_384];
+    let mut words = [0u32; WORD_ROOM];
+    let mut bytes = [0u8; MOST_BYTES];
     store::fresh::fresh(&mut words);
     let last = read_all(&mut words, &mut bytes);
     end_line(&mut words, &bytes, last);

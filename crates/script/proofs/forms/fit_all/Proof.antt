@@ -5,10 +5,10 @@ use Rattle.script.proofs.forms.fit_all.Statement.{statement}
 use Rattle.script.proofs.forms.fit_all.Tie as tie
 
 abbrev Inv-loop : tie.InvT-loop
-Inv-loop t form i₀ i = 1 ≤ i
+Inv-loop line form i₀ i = 1 ≤ i
 
 abbrev μ-loop : tie.MeasureT-loop
-μ-loop t form i₀ i = length t - i
+μ-loop line form i₀ i = length line - i
 
 loop-holds : tie.Need-loop-holds Inv-loop μ-loop
 loop-holds c = search needs

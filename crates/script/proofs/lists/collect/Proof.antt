@@ -5,10 +5,10 @@ use Rattle.script.proofs.lists.collect.Statement.{statement}
 use Rattle.script.proofs.lists.collect.Tie as tie
 
 abbrev Inv-loop : tie.InvT-loop
-Inv-loop t from lengths₀ cells₀ taken₀ i₀ lengths cells taken i = Unit {0}
+Inv-loop line from lengths₀ cells₀ taken₀ i₀ lengths cells taken i = Unit {0}
 
 abbrev μ-loop : tie.MeasureT-loop
-μ-loop t from lengths₀ cells₀ taken₀ i₀ lengths cells taken i = length t - i
+μ-loop line from lengths₀ cells₀ taken₀ i₀ lengths cells taken i = length line - i
 
 loop-holds : tie.Need-loop-holds Inv-loop μ-loop
 loop-holds c = search needs

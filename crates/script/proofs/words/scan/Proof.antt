@@ -5,10 +5,10 @@ use Rattle.script.proofs.words.scan.Statement.{statement}
 use Rattle.script.proofs.words.scan.Tie as tie
 
 abbrev Inv-loop : tie.InvT-loop
-Inv-loop line t₀ count₀ start₀ i₀ t count start i = Unit {0}
+Inv-loop bytes line₀ count₀ start₀ i₀ line count start i = Unit {0}
 
 abbrev μ-loop : tie.MeasureT-loop
-μ-loop line t₀ count₀ start₀ i₀ t count start i = length line - i
+μ-loop bytes line₀ count₀ start₀ i₀ line count start i = length bytes - i
 
 loop-holds : tie.Need-loop-holds Inv-loop μ-loop
 loop-holds c = search needs

@@ -4,6 +4,9 @@ use Rattle.settings.proofs.FloatOrder.{no-nan-bits}
 use Rattle.settle.proofs.clause.activity_of.Statement.{statement}
 use Rattle.settle.proofs.clause.activity_of.Tie as tie
 
+cast-if1 : tie.Need-cast-if1
+cast-if1 c = search needs
+
 float-from-bits-result : tie.Need-float-from-bits-result
 float-from-bits-result c = no-nan-bits _ (omega arith)
 
@@ -14,4 +17,4 @@ returns-2 : tie.Need-returns-2
 returns-2 c = search needs
 
 pub activity-of-spec : {M : Type 1} → statement M
-activity-of-spec = tie.close (tie.spec float-from-bits-result returns returns-2)
+activity-of-spec = tie.close (tie.spec cast-if1 float-from-bits-result returns returns-2)

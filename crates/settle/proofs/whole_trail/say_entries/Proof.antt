@@ -4,10 +4,10 @@ use Rattle.settle.proofs.whole_trail.say_entries.Statement.{statement}
 use Rattle.settle.proofs.whole_trail.say_entries.Tie as tie
 
 abbrev Inv-loop : tie.InvT-loop
-Inv-loop entries n i₀ i = Unit {0}
+Inv-loop s n i₀ i = Unit {0}
 
 abbrev μ-loop : tie.MeasureT-loop
-μ-loop entries n i₀ i = n - i
+μ-loop s n i₀ i = n - i
 
 slice-aggregate-text : tie.Need-slice-aggregate-text Inv-loop μ-loop
 slice-aggregate-text c = search needs

@@ -1,25 +1,26 @@
 use borrow.Author.Needs.{needs}
 use Prim.Native.Nat.{_-_}
-use Rattle.settle.proofs.whole_trail.find_first.Statement.{statement}
-use Rattle.settle.proofs.whole_trail.find_first.Tie as tie
+use lib.ListN.{length}
+use Rattle.script.proofs.forms.no_list_empty.Statement.{statement}
+use Rattle.script.proofs.forms.no_list_empty.Tie as tie
 
 abbrev Inv-loop : tie.InvT-loop
-Inv-loop copy entries₀ variable₀ entries variable = Unit {0}
+Inv-loop line i₀ i = Unit {0}
 
 abbrev μ-loop : tie.MeasureT-loop
-μ-loop copy entries₀ variable₀ entries variable = 512 - variable
+μ-loop line i₀ i = length line - i
 
 loop-holds : tie.Need-loop-holds Inv-loop μ-loop
 loop-holds c = search needs
 
-is-first-requires : tie.Need-is-first-requires Inv-loop μ-loop
-is-first-requires c κs = search needs
+well-placed-requires : tie.Need-well-placed-requires Inv-loop μ-loop
+well-placed-requires c κs = search needs
 
 returns : tie.Need-returns Inv-loop μ-loop
 returns c = search needs
 
-add-variable : tie.Need-add-variable Inv-loop μ-loop
-add-variable c = search needs
+add-i : tie.Need-add-i Inv-loop μ-loop
+add-i c = search needs
 
 loop-less : tie.Need-loop-less Inv-loop μ-loop
 loop-less c = search needs
@@ -30,16 +31,16 @@ loop-again c = search needs
 returns-2 : tie.Need-returns-2 Inv-loop μ-loop
 returns-2 c = search needs
 
-pub find-first-spec : {M : Type 1} → statement M
-find-first-spec =
+pub no-list-empty-spec : {M : Type 1} → statement M
+no-list-empty-spec =
     tie.close
     (tie.spec
     Inv-loop
     μ-loop
     loop-holds
-    is-first-requires
+    well-placed-requires
     returns
-    add-variable
+    add-i
     loop-less
     loop-again
     returns-2)

@@ -1,10 +1,10 @@
 // Calls on the queue: sync, propose.
 use proposal::Proposal;
-use script::forms;
-use script::forms::Heard;
+use script::names;
 use script::say;
 use settings::activity;
 use settings::activity::Admitted;
+use store::limits::WORD_ROOM;
 use sync::Synced;
 
 fn say_synced(answer: Synced) {
@@ -12,14 +12,6 @@ fn say_synced(answer: Synced) {
         Synced::Touches(n) => say::named(b"touches", n),
         Synced::Refused(n) => say::refused(n),
     }
-}
-
-pub fn sync(s: &mut [u32; 16_384], t: &[u64]) -> Heard {
-    let heard = forms::fits(t, b"");
-    if let Heard::Well = heard {
-        say_synced(sync::sync(s));
-    }
-    heard
 }
 
 // The bits of an activity that was stored, which is never bad.
@@ -60,10 +52,9 @@ fn say_proposal(answer: Proposal) {
     }
 }
 
-pub fn propose(s: &mut [u32; 16_384], t: &[u64]) -> Heard {
-    let heard = forms::fits(t, b"");
-    if let Heard::Well = heard {
-        say_proposal(proposal::propose(s));
+pub fn make(s: &mut [u32; WORD_ROOM], call: u64) {
+    match call {
+        names::SYNC => say_synced(sync::sync(s)),
+        _ => say_proposal(proposal::propose(s)),
     }
-    heard
 }
