@@ -1,5 +1,6 @@
-//! Links the proved library, which `rt staticlib imbolaverk` writes to target/staticlib in the repository's root.
-use std::path::PathBuf;
+//! Links the proved library, which `rt staticlib imbolaverk` writes to target/staticlib in the repository's root; with the feature
+//! `inner`, the benchmark gets the archive of `rt staticlib inner` too.
+use std::path::{Path, PathBuf};
 
 fn main() {
     let here = PathBuf::from(std::env::var("CARGO_MANIFEST_DIR").expect("cargo names the package's folder"));
@@ -7,12 +8,21 @@ fn main() {
         Ok(given) => PathBuf::from(given),
         Err(_) => here.join("../target/staticlib"),
     };
-    let archive = folder.join("libimbolaverk.a");
     println!("cargo:rerun-if-env-changed=IMBOLAVERK_LIB");
-    println!("cargo:rerun-if-changed={}", archive.display());
-    if !archive.exists() {
-        panic!("{} is missing: run `rt staticlib imbolaverk` in the repository's root first", archive.display());
-    }
+    archive(&folder, "imbolaverk");
     println!("cargo:rustc-link-search=native={}", folder.display());
     println!("cargo:rustc-link-lib=static=imbolaverk");
+    if std::env::var_os("CARGO_FEATURE_INNER").is_some() {
+        println!("cargo:rustc-link-arg-bin=bench={}", archive(&folder, "inner").display());
+    }
+}
+
+/// The archive of a crate, which must be there.
+fn archive(folder: &Path, name: &str) -> PathBuf {
+    let archive = folder.join(format!("lib{name}.a"));
+    println!("cargo:rerun-if-changed={}", archive.display());
+    if !archive.exists() {
+        panic!("{} is missing: run `rt staticlib {name}` in the repository's root first", archive.display());
+    }
+    archive
 }

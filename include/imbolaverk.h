@@ -1,11 +1,12 @@
 /*
  * Imbolaverk: a decision queue over one lent slice of words.
  *
- * Link libimbolaverk.a (`rt staticlib imbolaverk` writes target/staticlib/libimbolaverk.a). The library allocates nothing and keeps
+ * Link libimbolaverk.a (`rt staticlib imbolaverk` writes target/staticlib/libimbolaverk.a, for x86-64). The library allocates nothing and keeps
  * nothing between calls: all of its state is in the words that the caller lends. Of the C library it needs memcpy and memset.
  *
  * Every call takes the store first, as a pointer and its length in words; every other list is a pointer and a length too. An output
- * `out[N]` is a pointer to N words. No two lists of one call may overlap, unless the call reads both.
+ * `out[N]` is a pointer to N words. A list or an output that a call writes, the store among them, may overlap no other list or output of
+ * that call. Calls on different stores may run at once.
  *
  * Every call but imb_words answers IMB_DONE or a refusal. Every call is total: whatever the arguments and the words are, it answers
  * and never reads or writes outside the lists that it was lent. A refusal changes no word of the store and no output, with one
@@ -41,6 +42,26 @@ enum imb_answer {
     IMB_LOADED_TWICE = 12   /* what is to be loaded is loaded already */
 };
 
+/* What an answer says, in words, for a message or a log. */
+static inline const char *imb_answer_text(uint32_t answer) {
+    switch (answer) {
+    case IMB_DONE: return "done";
+    case IMB_BAD_STORE: return "the store is too short or not of sound shape";
+    case IMB_BAD_ID: return "an id is out of range or not loaded";
+    case IMB_NO_ROOM: return "there is no room left";
+    case IMB_BAD_LEVEL: return "the level is 0 or above 2,147,483,647";
+    case IMB_OTHER_VALUE: return "the variable holds the other value";
+    case IMB_NO_STOP: return "undo has no entry to stop at";
+    case IMB_UNSYNCED: return "the store is not synced";
+    case IMB_DEAD_CLAUSE: return "a clause has no candidate left";
+    case IMB_BAD_ACTIVITY: return "the activity is not a finite number from zero on";
+    case IMB_COLD_ACTIVITY: return "standard mode would hold a cold name with an activity above zero";
+    case IMB_MALFORMED: return "the table is malformed";
+    case IMB_LOADED_TWICE: return "it is loaded already";
+    default: return "no answer of this library";
+    }
+}
+
 /* A variable's value. IMB_UNDECIDED is an answer of imb_value_of alone. */
 enum imb_value { IMB_FALSE = 0, IMB_TRUE = 1, IMB_UNDECIDED = 2 };
 
@@ -62,7 +83,20 @@ enum imb_mode { IMB_ALL_CLAUSES = 0, IMB_STANDARD = 1 };
 /* The condition of a clause that has none. */
 #define IMB_NO_CONDITION UINT32_C(4294967295)
 
+/* Where the words of a proposal stand in the output of imb_propose. */
+enum imb_proposal_word {
+    IMB_PROPOSAL_FOUND = 0, /* 1, or 0 where nothing is open */
+    IMB_PROPOSAL_CANDIDATE = 1,
+    IMB_PROPOSAL_PARENT = 2,
+    IMB_PROPOSAL_CLAUSE = 3, /* also the dead clause's id */
+    IMB_PROPOSAL_ACTIVITY = 4, /* the bits of a float */
+    IMB_PROPOSAL_COUNT = 5,
+    IMB_PROPOSAL_DROPPED = 6,
+    IMB_PROPOSAL_WORDS = 7
+};
+
 /* The sizes of a store. */
+#define IMB_WORDS 14219            /* what imb_words answers */
 #define IMB_VARIABLES 512          /* 0..511; 0 is the root */
 #define IMB_CLAUSES 512
 #define IMB_NAMES 128
@@ -73,6 +107,8 @@ enum imb_mode { IMB_ALL_CLAUSES = 0, IMB_STANDARD = 1 };
 #define IMB_DISJUNCTIONS 128
 #define IMB_LITERALS 1024
 #define IMB_CONDITION_NODES 128
+#define IMB_CLAUSE_LITERALS 1024   /* the conditions of all clauses together */
+#define IMB_CLAUSE_NAMES 1024      /* the distinct names of all clauses together, each clause for itself */
 #define IMB_TERMS 64
 #define IMB_TERM_VERSION_SETS 16
 #define IMB_TRAIL_ENTRIES 512
@@ -95,7 +131,7 @@ uint32_t imb_fresh(uint32_t *s, size_t s_len);
 
 /* ---- tables, each loaded once */
 
-/* Loads a version set, of a name. Refusals: 2, 12. */
+/* Loads a version set with its name. Refusals: 2, 12. */
 uint32_t imb_load_version_set(uint32_t *s, size_t s_len, uint32_t version_set, uint32_t name);
 
 /* Loads a union of loaded version sets. Refusals: 2, 11 (a version set stands twice), 12, 3 (more than IMB_UNION_MEMBERS). */
@@ -123,14 +159,14 @@ uint32_t imb_copy_candidates(const uint32_t *s, size_t s_len, uint32_t kind, uin
 /* ---- clauses, names, the mode */
 
 /* Registers a clause of a parent: a requirement whose candidates are loaded, a loaded disjunction or IMB_NO_CONDITION, any id.
- * A clause may be registered again. Refusals: 2, 3. */
+ * A clause may be registered again. Refusals: 2, 3 (IMB_CLAUSES, IMB_CLAUSE_LITERALS or IMB_CLAUSE_NAMES would be exceeded). */
 uint32_t imb_register(uint32_t *s, size_t s_len, uint32_t parent, uint32_t kind, uint32_t requirement, uint32_t condition,
                       uint32_t clause);
 
 /* Makes a name hot, for good. Refusals: 2. */
 uint32_t imb_mark_hot(uint32_t *s, size_t s_len, uint32_t name);
 
-/* Gives a name an activity. Refusals: 2, 9, 10. */
+/* Gives a name an activity. In standard mode mark the name hot first: a cold one above zero is 10. Refusals: 2, 9, 10. */
 uint32_t imb_set_activity(uint32_t *s, size_t s_len, uint32_t name, float activity);
 
 /* Sets the mode. Refusals: 2, 10. */
@@ -187,12 +223,15 @@ uint32_t imb_disjunct_holds(const uint32_t *s, size_t s_len, const uint32_t *kin
 
 /* ---- the queue */
 
-/* Brings the queue up to the trail: out = [touches]. */
+/* Brings the queue up to the trail: out = [touches], the entries that came or went since the last sync. Call it after assigning or
+ * undoing and before imb_propose, which else answers 7; loading, registering and the settings need no sync. */
 uint32_t imb_sync(uint32_t *s, size_t s_len, uint32_t out[1]);
 
 /* Proposes the next decision: out = [1, candidate, parent, clause, the activity's bits, count, dropped].
  * Nothing is open: answers 0 with out[0] = 0 and out[6] = dropped, the rest kept.
- * Refusals: 7; 8, where the store keeps what the walk did, out[3] = the dead clause's id and out[6] = dropped, the rest kept. */
+ * Refusals: 7; 8, where the store keeps what the walk did, out[3] = the dead clause's id and out[6] = dropped, the rest kept.
+ * Look at the number first: at 8 out[0] is what it was. `count` is how many cells of the candidate's list are undecided, `dropped` how many
+ * clauses left the queue by this call. */
 uint32_t imb_propose(uint32_t *s, size_t s_len, uint32_t out[7]);
 
 #ifdef __cplusplus

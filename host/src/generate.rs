@@ -8,10 +8,12 @@ use crate::Store;
 pub struct Dice(u64);
 
 impl Dice {
+    /// The generator of a seed.
     pub fn new(seed: u64) -> Dice {
         Dice(seed.wrapping_mul(0x9e37_79b9_7f4a_7c15) ^ 0x5851_f42d_4c95_7f2d)
     }
 
+    /// Any number.
     pub fn roll(&mut self) -> u64 {
         self.0 = self.0.wrapping_add(0x9e37_79b9_7f4a_7c15);
         let mut z = self.0;
@@ -30,29 +32,32 @@ impl Dice {
         self.below(100) < percent
     }
 
-    pub fn pick<T: Copy>(&mut self, of: &[T]) -> T {
-        of[self.below(of.len() as u32) as usize]
+    /// One of a list that is not empty.
+    pub fn pick<T: Clone>(&mut self, of: &[T]) -> T {
+        of[self.below(of.len() as u32) as usize].clone()
     }
 }
 
 /// A call with the library's answer.
 #[derive(Clone, Debug)]
 pub struct Line {
+    /// The call, as a script says it.
     pub call: String,
+    /// What the library answered.
     pub answer: String,
 }
 
-/// How large a script's world is.
+/// How large a script's world is; `longest` is the length of its longest candidate list.
 #[derive(Clone, Copy, Debug)]
-pub struct Size {
-    pub variables: u32,
-    pub names: u32,
-    pub sets: u32,
-    pub unions: u32,
-    pub disjunctions: u32,
-    pub longest: u32,
-    pub clauses: u32,
-    pub calls: u32,
+struct Size {
+    variables: u32,
+    names: u32,
+    sets: u32,
+    unions: u32,
+    disjunctions: u32,
+    longest: u32,
+    clauses: u32,
+    calls: u32,
 }
 
 /// What a script is about.
@@ -74,6 +79,7 @@ pub enum Profile {
     Wrong,
 }
 
+/// Every profile with its name.
 pub const PROFILES: [(&str, Profile); 7] = [
     ("dense", Profile::Dense),
     ("rich", Profile::Rich),
@@ -85,27 +91,15 @@ pub const PROFILES: [(&str, Profile); 7] = [
 ];
 
 /// Activities that show: equal ones, neighbours, the smallest and the largest.
-const ACTIVITIES: [u32; 12] = [
-    0,
-    0,
-    0x3f80_0000,
-    0x3f80_0000,
-    0x4000_0000,
-    0x3f00_0000,
-    0x40a0_0000,
-    1,
-    2,
-    0x7f7f_ffff,
-    0x007f_ffff,
-    0x0080_0000,
-];
+const ACTIVITIES: [u32; 12] =
+    [0, 0, 0x3f80_0000, 0x3f80_0000, 0x4000_0000, 0x3f00_0000, 0x40a0_0000, 1, 2, 0x7f7f_ffff, 0x007f_ffff, 0x0080_0000];
 
 struct Script {
     dice: Dice,
     store: Store,
     size: Size,
     lines: Vec<Line>,
-    requirements: Vec<(char, u32)>,
+    requirements: Vec<String>,
     registered: Vec<String>,
 }
 
@@ -113,8 +107,7 @@ struct Script {
 pub fn script(profile: Profile, seed: u64) -> Vec<Line> {
     let mut dice = Dice::new(seed);
     let size = size_of(profile, &mut dice);
-    let mut s = Script { dice, store: Store::new(), size, lines: vec![], requirements: vec![], registered: vec![] };
-    s.say("fresh".to_string());
+    let mut s = Script::new(dice, size);
     match profile {
         Profile::Trail => s.trail(),
         Profile::Conditions => s.conditions(),
@@ -125,11 +118,32 @@ pub fn script(profile: Profile, seed: u64) -> Vec<Line> {
     s.lines
 }
 
+/// A run like a solver's, for timing: what is proposed is decided, now and then forbidden, and taken back where a clause is dead.
+pub fn solving(clauses: u32, standard: bool) -> Vec<Line> {
+    let sets = (clauses / 2).min(256);
+    let size = Size { variables: 512, names: 128, sets, unions: 0, disjunctions: 64, longest: 4, clauses, calls: 400 };
+    let mut s = Script::new(Dice::new(7), size);
+    s.solving_tables();
+    if !standard {
+        s.say("mode 0");
+    }
+    s.solving_clauses();
+    s.solving_calls();
+    s.lines
+}
+
 fn size_of(profile: Profile, dice: &mut Dice) -> Size {
     match profile {
-        Profile::Dense | Profile::Wrong => {
-            Size { variables: 4 + dice.below(8), names: 4, sets: 5, unions: 2, disjunctions: 3, longest: 4, clauses: 10, calls: 120 }
-        }
+        Profile::Dense | Profile::Wrong => Size {
+            variables: 4 + dice.below(8),
+            names: 4,
+            sets: 5,
+            unions: 2,
+            disjunctions: 3,
+            longest: 4,
+            clauses: 10,
+            calls: 120,
+        },
         Profile::Wide => {
             Size { variables: 512, names: 128, sets: 256, unions: 64, disjunctions: 128, longest: 7, clauses: 520, calls: 900 }
         }
@@ -138,7 +152,16 @@ fn size_of(profile: Profile, dice: &mut Dice) -> Size {
 }
 
 impl Script {
-    fn say(&mut self, call: String) -> String {
+    /// A script that has only made its store fresh.
+    fn new(dice: Dice, size: Size) -> Script {
+        let mut s = Script { dice, store: Store::new(), size, lines: vec![], requirements: vec![], registered: vec![] };
+        s.say("fresh");
+        s
+    }
+
+    /// Makes a call and keeps it with its answer.
+    fn say(&mut self, call: impl Into<String>) -> String {
+        let call = call.into();
         let answer = match Call::read(&call) {
             Some(made) => made.answer(&mut self.store),
             None => "bad".to_string(),
@@ -148,17 +171,36 @@ impl Script {
     }
 
     fn variable(&mut self) -> u32 {
-        let n = self.size.variables;
-        self.dice.below(n)
+        self.dice.below(self.size.variables)
+    }
+
+    /// Fewer than n words of a kind, each after a blank.
+    fn words(&mut self, n: u32, word: impl Fn(&mut Self) -> String) -> String {
+        (0..self.dice.below(n)).map(|_| format!(" {}", word(self))).collect()
     }
 
     fn cells(&mut self) -> String {
-        let n = self.size.longest + 1;
-        let mut said = String::new();
-        for _ in 0..self.dice.below(n) {
-            said.push_str(&format!(" {}", self.variable()));
+        self.words(self.size.longest + 1, |s| s.variable().to_string())
+    }
+
+    /// A requirement whose candidates are loaded, as a script says it.
+    fn requirement(&mut self) -> Option<String> {
+        (!self.requirements.is_empty()).then(|| self.dice.pick(&self.requirements))
+    }
+
+    /// A disjunction so many times of a hundred, else no condition.
+    fn condition(&mut self, percent: u32) -> String {
+        if self.dice.often(percent) {
+            self.dice.below(self.size.disjunctions).to_string()
+        } else {
+            "-".to_string()
         }
-        said
+    }
+
+    fn load_candidates(&mut self, requirement: String, cells: &str) {
+        if self.say(format!("cand {requirement}{cells}")) == "ok" {
+            self.requirements.push(requirement);
+        }
     }
 
     fn tables(&mut self) {
@@ -169,9 +211,7 @@ impl Script {
         }
         for set in 0..size.sets {
             let cells = self.cells();
-            if self.say(format!("cand s {set}{cells}")) == "ok" {
-                self.requirements.push(('s', set));
-            }
+            self.load_candidates(format!("s {set}"), &cells);
         }
         for union in 0..size.unions {
             let mut members: Vec<u32> = vec![];
@@ -185,34 +225,25 @@ impl Script {
             self.say(format!("union {union}{said}"));
             let lists: Vec<String> = members.iter().map(|_| self.cells()).collect();
             let cells = if lists.is_empty() { " none".to_string() } else { lists.join(" ;") };
-            if self.say(format!("cand u {union}{cells}")) == "ok" {
-                self.requirements.push(('u', union));
-            }
+            self.load_candidates(format!("u {union}"), &cells);
         }
         for disjunction in 0..size.disjunctions {
-            let mut literals = String::new();
-            for _ in 0..self.dice.below(4) {
-                literals.push_str(&format!(" {} {}", self.variable(), self.dice.below(2)));
-            }
+            let literals = self.words(4, |s| format!("{} {}", s.variable(), s.dice.below(2)));
             self.say(format!("disj {disjunction}{literals}"));
         }
     }
 
     fn register(&mut self) {
-        if self.requirements.is_empty() {
-            return;
-        }
+        let Some(requirement) = self.requirement() else { return };
         if !self.registered.is_empty() && self.dice.often(8) {
-            let i = self.dice.below(self.registered.len() as u32) as usize;
-            let again = self.registered[i].clone();
+            let again = self.dice.pick(&self.registered);
             self.say(again);
             return;
         }
-        let (kind, id) = self.dice.pick(&self.requirements.clone());
         let parent = if self.dice.often(45) { 0 } else { self.variable() };
-        let condition = if self.dice.often(35) { self.dice.below(self.size.disjunctions).to_string() } else { "-".to_string() };
+        let condition = self.condition(35);
         let clause = 100 + 3 * self.registered.len() as u32;
-        let call = format!("register {parent} {kind} {id} {condition} {clause}");
+        let call = format!("register {parent} {requirement} {condition} {clause}");
         self.registered.push(call.clone());
         self.say(call);
     }
@@ -243,12 +274,12 @@ impl Script {
 
     fn undo(&mut self) {
         if self.dice.often(60) {
-            self.say("undo_last".to_string());
+            self.say("undo_last");
         } else if self.dice.often(90) {
             let level = self.level().saturating_sub(self.dice.below(3)).max(1);
             self.say(format!("undo_until {level}"));
         } else {
-            self.say("undo_until 0".to_string());
+            self.say("undo_until 0");
         }
     }
 
@@ -279,13 +310,7 @@ impl Script {
             3 => "trail".to_string(),
             4 | 5 => "next".to_string(),
             6 => self.conjuncts(),
-            _ => match self.requirements.is_empty() {
-                true => "next".to_string(),
-                false => {
-                    let (kind, id) = self.dice.pick(&self.requirements.clone());
-                    format!("lookup {kind} {id}")
-                }
-            },
+            _ => self.requirement().map_or("next".to_string(), |requirement| format!("lookup {requirement}")),
         };
         self.say(call);
     }
@@ -302,17 +327,17 @@ impl Script {
 
     fn ask(&mut self) {
         if self.dice.often(85) {
-            self.say("sync".to_string());
+            self.say("sync");
         }
         if self.dice.often(80) {
-            self.say("propose".to_string());
+            self.say("propose");
         }
     }
 
     /// Every kind of call; so many of a hundred are wrong.
     fn mixed(&mut self, wrong: u32) {
         self.tables();
-        self.say("assign 0 1 1 0".to_string());
+        self.say("assign 0 1 1 0");
         let first = self.dice.below(self.size.clauses + 1);
         for _ in 0..first {
             self.register();
@@ -374,16 +399,16 @@ impl Script {
     fn settling(&mut self) {
         self.tables();
         if self.dice.often(50) {
-            self.say("mode 0".to_string());
+            self.say("mode 0");
         }
         for _ in 0..self.size.clauses {
             self.register();
         }
-        self.say("assign 0 1 1 0".to_string());
+        self.say("assign 0 1 1 0");
         let mut level = 2;
         for _ in 0..self.size.calls {
-            self.say("sync".to_string());
-            let said = self.say("propose".to_string());
+            self.say("sync");
+            let said = self.say("propose");
             let words: Vec<&str> = said.split(' ').collect();
             match words[0] {
                 "choose" if self.dice.often(80) => {
@@ -409,8 +434,8 @@ impl Script {
             match self.dice.below(10) {
                 0..=3 => self.assign(),
                 4..=5 => self.undo(),
-                6 => drop(self.say("next".to_string())),
-                7 => drop(self.say("sync".to_string())),
+                6 => drop(self.say("next")),
+                7 => drop(self.say("sync")),
                 _ => self.look(),
             }
         }
@@ -434,6 +459,63 @@ impl Script {
                 let held = self.conjuncts();
                 self.say(held);
             }
+        }
+    }
+    /// A variable that is not the root.
+    fn other_variable(&mut self) -> u32 {
+        1 + self.dice.below(self.size.variables - 1)
+    }
+
+    /// Four candidates a version set, disjunctions of one literal, and every fourth name hot with an activity.
+    fn solving_tables(&mut self) {
+        for set in 0..self.size.sets {
+            self.say(format!("vs {set} {}", set % self.size.names));
+            let cells: String = (0..self.size.longest).map(|_| format!(" {}", self.other_variable())).collect();
+            self.say(format!("cand s {set}{cells}"));
+        }
+        for disjunction in 0..self.size.disjunctions {
+            let call = format!("disj {disjunction} {} {}", self.other_variable(), self.dice.below(2));
+            self.say(call);
+        }
+        for name in (0..self.size.names).step_by(4) {
+            self.say(format!("hot {name}"));
+            self.say(format!("activity {name} {}", f32::to_bits(1.0 + (name % 5) as f32)));
+        }
+    }
+
+    fn solving_clauses(&mut self) {
+        for clause in 0..self.size.clauses {
+            let parent = if self.dice.often(20) { 0 } else { self.other_variable() };
+            let condition = self.condition(10);
+            let set = self.dice.below(self.size.sets);
+            self.say(format!("register {parent} s {set} {condition} {}", 1000 + clause));
+        }
+    }
+
+    fn solving_calls(&mut self) {
+        self.say("assign 0 1 1 0");
+        let mut level = 2;
+        for _ in 0..self.size.calls {
+            self.say("sync");
+            let said = self.say("propose");
+            let words: Vec<&str> = said.split(' ').collect();
+            if words[0] == "choose" {
+                let value = u32::from(self.dice.often(85));
+                self.say(format!("assign {} {value} {level} {}", words[1], words[3]));
+                level += 1;
+                if self.dice.often(30) {
+                    let call = format!("assign {} {} {level} 0", self.other_variable(), self.dice.below(2));
+                    self.say(call);
+                }
+                self.say("next");
+            } else {
+                level = (level - self.dice.below(level)).max(2);
+                self.say(format!("undo_until {}", level - 1));
+            }
+        }
+        for _ in 0..self.size.calls / 4 {
+            self.assign();
+            self.say("undo_last");
         }
     }
 }

@@ -25,6 +25,8 @@
 //! # Ok::<(), imbolaverk::Refusal>(())
 //! ```
 
+#![warn(missing_docs)]
+
 pub mod generate;
 pub mod original;
 pub mod raw;
@@ -34,13 +36,24 @@ pub use raw::Decision;
 
 use std::fmt;
 
+/// The most entries that a trail has.
+pub const TRAIL_ENTRIES: usize = 512;
+/// The most version sets that a union has, and so the most candidate lists of a requirement.
+pub const UNION_MEMBERS: usize = 8;
+/// All candidate lists together have no more cells.
+pub const CANDIDATE_CELLS: usize = 2048;
+/// The most terms of a rewritten condition.
+pub const TERMS: usize = 64;
+/// All terms of a rewritten condition together have no more version sets.
+pub const TERM_CELLS: usize = TERMS * 16;
+
 /// Why a call was refused. But for a dead clause, a refused call has changed nothing.
 #[derive(Clone, Copy, Debug, PartialEq, Eq)]
 pub enum Refusal {
     /// 1: the words are too few, or not of sound shape.
-    UnsoundStore,
+    BadStore,
     /// 2: an id or a range is out of range or names something that is not loaded, or a value, sign, mode or kind is unknown.
-    UnknownId,
+    BadId,
     /// 3: a size or a lent list would be exceeded.
     NoRoom,
     /// 4: an assignment's level is 0, or a level is above 2,147,483,647.
@@ -48,11 +61,16 @@ pub enum Refusal {
     /// 5: the variable holds the other value.
     OtherValue,
     /// 6: undo has no entry to stop at.
-    NoEntryToStopAt,
+    NoStop,
     /// 7: the store is not synced.
     Unsynced,
     /// 8: the walk reached a clause that has no candidate left.
-    DeadClause { clause: u32, dropped: u32 },
+    DeadClause {
+        /// The dead clause's id.
+        clause: u32,
+        /// How many clauses left the queue before it was met.
+        dropped: u32,
+    },
     /// 9: an activity is NaN, infinite or has its sign bit set.
     BadActivity,
     /// 10: standard mode would hold a cold name with an activity above zero.
@@ -67,12 +85,12 @@ impl Refusal {
     /// The number that the C entry points answer.
     pub fn number(self) -> u32 {
         match self {
-            Refusal::UnsoundStore => 1,
-            Refusal::UnknownId => 2,
+            Refusal::BadStore => 1,
+            Refusal::BadId => 2,
             Refusal::NoRoom => 3,
             Refusal::BadLevel => 4,
             Refusal::OtherValue => 5,
-            Refusal::NoEntryToStopAt => 6,
+            Refusal::NoStop => 6,
             Refusal::Unsynced => 7,
             Refusal::DeadClause { .. } => 8,
             Refusal::BadActivity => 9,
@@ -84,12 +102,12 @@ impl Refusal {
 
     fn of(number: u32) -> Refusal {
         match number {
-            1 => Refusal::UnsoundStore,
-            2 => Refusal::UnknownId,
+            1 => Refusal::BadStore,
+            2 => Refusal::BadId,
             3 => Refusal::NoRoom,
             4 => Refusal::BadLevel,
             5 => Refusal::OtherValue,
-            6 => Refusal::NoEntryToStopAt,
+            6 => Refusal::NoStop,
             7 => Refusal::Unsynced,
             9 => Refusal::BadActivity,
             10 => Refusal::ColdActivity,
@@ -103,12 +121,12 @@ impl Refusal {
 impl fmt::Display for Refusal {
     fn fmt(&self, f: &mut fmt::Formatter<'_>) -> fmt::Result {
         let said = match self {
-            Refusal::UnsoundStore => "the store is too short or not of sound shape",
-            Refusal::UnknownId => "an id is out of range or not loaded",
+            Refusal::BadStore => "the store is too short or not of sound shape",
+            Refusal::BadId => "an id is out of range or not loaded",
             Refusal::NoRoom => "there is no room left",
             Refusal::BadLevel => "the level is 0 or above 2,147,483,647",
             Refusal::OtherValue => "the variable holds the other value",
-            Refusal::NoEntryToStopAt => "undo has no entry to stop at",
+            Refusal::NoStop => "undo has no entry to stop at",
             Refusal::Unsynced => "the store is not synced",
             Refusal::DeadClause { clause, .. } => return write!(f, "clause {clause} has no candidate left"),
             Refusal::BadActivity => "the activity is not a finite number from zero on",
@@ -125,12 +143,15 @@ impl std::error::Error for Refusal {}
 /// A requirement: one version set, or a union of several.
 #[derive(Clone, Copy, Debug, PartialEq, Eq, Hash)]
 pub enum Requirement {
+    /// A version set, by its id.
     Single(u32),
+    /// A union, by its id.
     Union(u32),
 }
 
 impl Requirement {
-    fn words(self) -> (u32, u32) {
+    /// The kind and the id that the C entry points take for it.
+    pub fn words(self) -> (u32, u32) {
         match self {
             Requirement::Single(id) => (0, id),
             Requirement::Union(id) => (1, id),
@@ -141,32 +162,68 @@ impl Requirement {
 /// A clause's condition: none, or a loaded disjunction.
 #[derive(Clone, Copy, Debug, PartialEq, Eq)]
 pub enum Condition {
+    /// The clause has no condition.
     None,
+    /// A disjunction, by its id.
     Disjunction(u32),
+}
+
+impl Condition {
+    /// The number that the C entry points take for it. The largest number means no condition, so as a disjunction's id it becomes
+    /// another one that is out of range.
+    pub fn word(self) -> u32 {
+        match self {
+            Condition::None => u32::MAX,
+            Condition::Disjunction(id) => id.min(u32::MAX - 1),
+        }
+    }
 }
 
 /// A node of a condition tree.
 #[derive(Clone, Copy, Debug, PartialEq, Eq)]
 pub enum Node {
-    Leaf { version_set: u32 },
-    And { left: u32, right: u32 },
-    Or { left: u32, right: u32 },
+    /// Holds if a candidate of the version set is true.
+    Leaf {
+        /// The version set's id.
+        version_set: u32,
+    },
+    /// Holds if both nodes do.
+    And {
+        /// A smaller node.
+        left: u32,
+        /// A smaller node.
+        right: u32,
+    },
+    /// Holds if one of the nodes does.
+    Or {
+        /// A smaller node.
+        left: u32,
+        /// A smaller node.
+        right: u32,
+    },
 }
 
 /// A conjunct of a disjunct: the candidates of a version set, or none of them.
 #[derive(Clone, Debug, PartialEq, Eq)]
 pub enum Conjunct {
+    /// Holds if one of these variables is true.
     Solvables(Vec<u32>),
+    /// No candidates: it does not hold.
     Empty,
 }
 
 /// "Settle this next."
 #[derive(Clone, Copy, Debug, PartialEq)]
 pub struct Proposal {
+    /// The variable to decide.
     pub candidate: u32,
+    /// The parent of the clause that needs it.
     pub parent: u32,
+    /// That clause's id.
     pub clause: u32,
+    /// The activity of the name that the candidate was found under.
     pub activity: f32,
+    /// How many candidates are undecided in the list that holds it.
     pub count: u32,
 }
 
@@ -182,14 +239,18 @@ pub struct Asked {
 /// What an assignment did.
 #[derive(Clone, Copy, Debug, PartialEq, Eq)]
 pub enum Assigned {
+    /// The trail has one entry more.
     New,
+    /// The variable held the value already.
     Already,
 }
 
-/// A popped entry, and the level of the entry that is now the last.
+/// What taking the last entry back answers.
 #[derive(Clone, Copy, Debug, PartialEq, Eq)]
 pub struct Popped {
+    /// The entry that was taken back.
     pub decision: Decision,
+    /// The level of the entry that is now the last.
     pub level: u32,
 }
 
@@ -236,6 +297,11 @@ impl Store {
         &self.words
     }
 
+    /// The words, for changing them: whatever they then hold, every call answers.
+    pub fn words_mut(&mut self) -> &mut [u32] {
+        &mut self.words
+    }
+
     fn lent(&mut self) -> (*mut u32, usize) {
         (self.words.as_mut_ptr(), self.words.len())
     }
@@ -244,16 +310,19 @@ impl Store {
         (self.words.as_ptr(), self.words.len())
     }
 
+    /// Makes the store fresh again, whatever it held.
     pub fn make_fresh(&mut self) -> Result<(), Refusal> {
         let (s, n) = self.lent();
         done(unsafe { raw::imb_fresh(s, n) })
     }
 
+    /// Loads a version set, of a name.
     pub fn load_version_set(&mut self, version_set: u32, name: u32) -> Result<(), Refusal> {
         let (s, n) = self.lent();
         done(unsafe { raw::imb_load_version_set(s, n, version_set, name) })
     }
 
+    /// Loads a union of loaded version sets.
     pub fn load_union(&mut self, union: u32, members: &[u32]) -> Result<(), Refusal> {
         let (s, n) = self.lent();
         done(unsafe { raw::imb_load_union(s, n, union, members.as_ptr(), members.len()) })
@@ -278,6 +347,7 @@ impl Store {
         })
     }
 
+    /// Loads a node of a condition tree; its children are smaller nodes.
     pub fn load_condition(&mut self, node: u32, content: Node) -> Result<(), Refusal> {
         let (kind, left, right) = match content {
             Node::Leaf { version_set } => (0, version_set, 0),
@@ -288,22 +358,20 @@ impl Store {
         done(unsafe { raw::imb_load_condition(s, n, node, kind, left, right) })
     }
 
+    /// Registers a clause of a parent under an id. A clause may be registered again.
     pub fn register(&mut self, parent: u32, requirement: Requirement, condition: Condition, clause: u32) -> Result<(), Refusal> {
         let (kind, id) = requirement.words();
-        // The largest number means no condition, so as a disjunction's id it becomes another one that is out of range.
-        let condition = match condition {
-            Condition::None => u32::MAX,
-            Condition::Disjunction(id) => id.min(u32::MAX - 1),
-        };
         let (s, n) = self.lent();
-        done(unsafe { raw::imb_register(s, n, parent, kind, id, condition, clause) })
+        done(unsafe { raw::imb_register(s, n, parent, kind, id, condition.word(), clause) })
     }
 
+    /// Makes a name hot, for good.
     pub fn mark_hot(&mut self, name: u32) -> Result<(), Refusal> {
         let (s, n) = self.lent();
         done(unsafe { raw::imb_mark_hot(s, n, name) })
     }
 
+    /// Gives a name an activity.
     pub fn set_activity(&mut self, name: u32, activity: f32) -> Result<(), Refusal> {
         let (s, n) = self.lent();
         done(unsafe { raw::imb_set_activity(s, n, name, activity) })
@@ -315,6 +383,7 @@ impl Store {
         done(unsafe { raw::imb_set_mode(s, n, standard as u32) })
     }
 
+    /// Assigns a value to a variable at a level, for a clause.
     pub fn assign(&mut self, variable: u32, value: bool, level: u32, clause: u32) -> Result<Assigned, Refusal> {
         let mut out = [0];
         let (s, n) = self.lent();
@@ -322,6 +391,7 @@ impl Store {
         Ok(if out[0] == 1 { Assigned::New } else { Assigned::Already })
     }
 
+    /// Takes the last entry back; the only entry stays, and is refused.
     pub fn undo_last(&mut self) -> Result<Popped, Refusal> {
         let mut out = [0; 4];
         let (s, n) = self.lent();
@@ -330,11 +400,13 @@ impl Store {
         Ok(Popped { decision: Decision { variable, value, clause }, level })
     }
 
+    /// Takes entries back while the last one's level is above `level`; 0 clears the trail.
     pub fn undo_until(&mut self, level: u32) -> Result<(), Refusal> {
         let (s, n) = self.lent();
         done(unsafe { raw::imb_undo_until(s, n, level) })
     }
 
+    /// Hands out the next entry that was not propagated.
     pub fn next_unpropagated(&mut self) -> Result<Option<Decision>, Refusal> {
         let mut out = [0; 4];
         let (s, n) = self.lent();
@@ -351,6 +423,7 @@ impl Store {
         Ok((out[0] != 2).then_some((out[0] == 1, out[1])))
     }
 
+    /// The clause of a variable's first entry, if it has one.
     pub fn clause_of(&self, variable: u32) -> Result<Option<u32>, Refusal> {
         let mut out = [0; 2];
         let (s, n) = self.read();
@@ -358,6 +431,7 @@ impl Store {
         Ok((out[0] == 1).then_some(out[1]))
     }
 
+    /// How many entries the trail has.
     pub fn trail_length(&self) -> Result<usize, Refusal> {
         let mut out = [0];
         let (s, n) = self.read();
@@ -375,19 +449,21 @@ impl Store {
         Ok(list)
     }
 
+    /// The whole trail.
     pub fn trail(&self) -> Result<Vec<Decision>, Refusal> {
-        self.trail_in(512)
+        self.trail_in(TRAIL_ENTRIES)
     }
 
     /// A requirement's candidate lists, as they were loaded.
     pub fn candidates(&self, requirement: Requirement) -> Result<Vec<Vec<u32>>, Refusal> {
-        let mut lengths = [0; 8];
-        let mut cells = [0; 2048];
+        let mut lengths = [0; UNION_MEMBERS];
+        let mut cells = [0; CANDIDATE_CELLS];
         let mut out = [0; 2];
         let (kind, id) = requirement.words();
         let (s, n) = self.read();
         done(unsafe {
-            raw::imb_copy_candidates(s, n, kind, id, lengths.as_mut_ptr(), 8, cells.as_mut_ptr(), 2048, out.as_mut_ptr())
+            let (lists, room) = (lengths.as_mut_ptr(), cells.as_mut_ptr());
+            raw::imb_copy_candidates(s, n, kind, id, lists, lengths.len(), room, cells.len(), out.as_mut_ptr())
         })?;
         Ok(parted(&lengths[..out[0] as usize], &cells))
     }
@@ -404,8 +480,9 @@ impl Store {
         Ok(parted(&lengths[..out[0] as usize], &sets))
     }
 
+    /// The terms of a rewritten condition.
     pub fn rewrite(&self, node: u32) -> Result<Vec<Vec<u32>>, Refusal> {
-        self.rewrite_in(node, 64, 1024)
+        self.rewrite_in(node, TERMS, TERM_CELLS)
     }
 
     /// Whether a disjunct holds: each conjunct has a candidate that is true.
@@ -449,6 +526,7 @@ impl Store {
         Ok(out[0])
     }
 
+    /// Asks for the next proposal.
     pub fn propose(&mut self) -> Result<Asked, Refusal> {
         let mut out = [0; 7];
         let (s, n) = self.lent();
@@ -489,4 +567,33 @@ fn parted(lengths: &[u32], cells: &[u32]) -> Vec<Vec<u32>> {
             part.to_vec()
         })
         .collect()
+}
+
+#[cfg(test)]
+mod tests {
+    use super::*;
+
+    /// The number that the C header gives a name.
+    fn in_header(name: &str) -> usize {
+        let header = include_str!("../../include/imbolaverk.h");
+        let line = header.lines().find(|line| line.starts_with(&format!("#define {name} "))).expect("the header has the name");
+        line.split_whitespace().nth(2).expect("a number").parse().expect("a number")
+    }
+
+    #[test]
+    fn the_header_has_the_same_sizes() {
+        assert_eq!(in_header("IMB_WORDS"), Store::size());
+        assert_eq!(in_header("IMB_TRAIL_ENTRIES"), TRAIL_ENTRIES);
+        assert_eq!(in_header("IMB_UNION_MEMBERS"), UNION_MEMBERS);
+        assert_eq!(in_header("IMB_CANDIDATE_CELLS"), CANDIDATE_CELLS);
+        assert_eq!(in_header("IMB_TERMS"), TERMS);
+        assert_eq!(in_header("IMB_TERMS") * in_header("IMB_TERM_VERSION_SETS"), TERM_CELLS);
+    }
+
+    #[test]
+    fn refusals_keep_their_numbers() {
+        for number in (1..=12).filter(|&number| number != 8) {
+            assert_eq!(Refusal::of(number).number(), number);
+        }
+    }
 }

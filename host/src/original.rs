@@ -14,7 +14,8 @@ pub fn driver() -> PathBuf {
 
 /// Runs the original on a script, with these words; answers what it printed.
 pub fn run(words: &[&str], script: &str) -> std::io::Result<String> {
-    let mut child = Command::new(driver()).args(words).stdin(Stdio::piped()).stdout(Stdio::piped()).stderr(Stdio::null()).spawn()?;
+    let mut child =
+        Command::new(driver()).args(words).stdin(Stdio::piped()).stdout(Stdio::piped()).stderr(Stdio::null()).spawn()?;
     let mut input = child.stdin.take().expect("its input is a pipe");
     let mut output = child.stdout.take().expect("its output is a pipe");
     let text = script.to_string();

@@ -1,10 +1,11 @@
 //! The script language: one call a line, one answer line a call. The original's driver and the program `settle` read it too.
 
-use crate::{Assigned, Condition, Conjunct, Node, Refusal, Requirement, Store};
+use crate::{Assigned, Condition, Conjunct, Node, Refusal, Requirement, Store, TERMS, TERM_CELLS, TRAIL_ENTRIES};
 use std::fmt::Write;
 
-/// One call of a script.
+/// One call of a script, with the arguments of the [`Store`]'s method that it makes.
 #[derive(Clone, Debug, PartialEq)]
+#[allow(missing_docs)]
 pub enum Call {
     Fresh,
     VersionSet { version_set: u32, name: u32 },
@@ -103,23 +104,20 @@ impl Call {
             ("hot", [name]) => Call::Hot(number(name)?),
             ("activity", [name, bits]) => Call::Activity { name: number(name)?, bits: number(bits)? },
             ("mode", [mode]) => Call::Mode(flag(mode)?),
-            ("assign", [variable, value, level, clause]) => Call::Assign {
-                variable: number(variable)?,
-                value: flag(value)?,
-                level: number(level)?,
-                clause: number(clause)?,
-            },
+            ("assign", [variable, value, level, clause]) => {
+                Call::Assign { variable: number(variable)?, value: flag(value)?, level: number(level)?, clause: number(clause)? }
+            }
             ("undo_last", []) => Call::UndoLast,
             ("undo_until", [level]) => Call::UndoUntil(number(level)?),
             ("next", []) => Call::Next,
             ("clause_of", [variable]) => Call::ClauseOf(number(variable)?),
             ("value_of", [variable]) => Call::ValueOf(number(variable)?),
             ("level_of", [variable]) => Call::LevelOf(number(variable)?),
-            ("trail", []) => Call::Trail { room: 512 },
+            ("trail", []) => Call::Trail { room: TRAIL_ENTRIES },
             ("trail", [room]) => Call::Trail { room: number(room)? as usize },
             ("sync", []) => Call::Sync,
             ("propose", []) => Call::Propose,
-            ("dnf", [node]) => Call::Rewrite { node: number(node)?, terms: 64, cells: 1024 },
+            ("dnf", [node]) => Call::Rewrite { node: number(node)?, terms: TERMS, cells: TERM_CELLS },
             ("dnf", [node, terms, cells]) => {
                 Call::Rewrite { node: number(node)?, terms: number(terms)? as usize, cells: number(cells)? as usize }
             }
@@ -218,8 +216,7 @@ impl Call {
             }),
             Call::LevelOf(variable) => Ok(format!("level {}", store.value_of(*variable)?.map_or(0, |held| held.1))),
             Call::Trail { room } => {
-                let entries: Vec<Vec<u32>> =
-                    store.trail_in(*room)?.iter().map(|d| vec![d.variable, d.value, d.clause]).collect();
+                let entries: Vec<Vec<u32>> = store.trail_in(*room)?.iter().map(|d| vec![d.variable, d.value, d.clause]).collect();
                 Ok(joined("trail", &entries))
             }
             Call::Sync => Ok(format!("touches {}", store.sync()?)),

@@ -1,8 +1,9 @@
-//! Times the same scripts on the original and on the library, turn by turn, and prints nanoseconds a call and their ratio.
+//! Times the same scripts on the original and on the library, turn by turn, and prints nanoseconds a call with their ratios: of the
+//! public calls, which check the shape of all words first, and of the inner calls, which are the same without the check.
 //!
-//!     bench [TURNS]      so many turns of each (default 7); the median of the turns is printed
+//!     bench [TURNS [REPEATS]]      so many turns of each (default 7) over so many runs of a script (default 40); medians are printed
 
-use imbolaverk::generate::Dice;
+use imbolaverk::generate::solving;
 use imbolaverk::original::{run, takes};
 use imbolaverk::script::Call;
 use imbolaverk::Store;
@@ -10,106 +11,84 @@ use std::collections::BTreeMap;
 use std::hint::black_box;
 use std::time::Instant;
 
-/// How often a script is run in one turn.
-const REPEATS: u32 = 40;
+/// The inner calls, of `libinner.a`: nothing tests their precondition, a store of sound shape, so they are for this program alone.
+mod inner {
+    extern "C" {
+        pub fn inner_sound(s: *const u32, n: usize) -> u32;
+        pub fn inner_register(
+            s: *mut u32,
+            n: usize,
+            parent: u32,
+            kind: u32,
+            requirement: u32,
+            condition: u32,
+            clause: u32,
+        ) -> u32;
+        pub fn inner_assign(s: *mut u32, n: usize, variable: u32, value: u32, level: u32, clause: u32, out: *mut u32) -> u32;
+        pub fn inner_undo_last(s: *mut u32, n: usize, out: *mut u32) -> u32;
+        pub fn inner_undo_until(s: *mut u32, n: usize, level: u32) -> u32;
+        pub fn inner_next(s: *mut u32, n: usize, out: *mut u32) -> u32;
+        pub fn inner_sync(s: *mut u32, n: usize, out: *mut u32) -> u32;
+        pub fn inner_propose(s: *mut u32, n: usize, out: *mut u32) -> u32;
+    }
+}
 
+/// The kinds of calls that are printed.
+const KINDS: [&str; 7] = ["assign", "undo_last", "undo_until", "next", "sync", "propose", "register"];
+
+/// How often the shape check is timed.
+const CHECKS: u32 = 10_000;
+
+/// Nanoseconds a call, by kind.
 type Times = BTreeMap<String, f64>;
 
 fn main() {
-    let turns: usize = std::env::args().nth(1).map_or(7, |word| word.parse().expect("TURNS is a number"));
+    let mut words = std::env::args().skip(1).map(|word| word.parse().expect("TURNS and REPEATS are numbers"));
+    let turns: u32 = words.next().unwrap_or(7);
+    let repeats: u32 = words.next().unwrap_or(40);
     for (clauses, standard) in [(64, true), (512, true), (512, false)] {
-        let calls = solving(clauses, standard);
-        let text: String = calls.iter().map(|call| format!("{call}\n")).collect();
-        let mut original: Vec<Times> = vec![];
-        let mut library: Vec<Times> = vec![];
+        let lines: Vec<String> =
+            solving(clauses, standard).into_iter().filter(|line| takes(&line.answer)).map(|line| line.call).collect();
+        let calls: Vec<Call> = lines.iter().map(|line| Call::read(line).expect("a call")).collect();
+        let text = lines.join("\n") + "\n";
+        let (mut original, mut public, mut inner, mut checks) = (vec![], vec![], vec![], vec![]);
         for _ in 0..turns {
-            original.push(original_times(&text));
-            library.push(library_times(&calls));
+            original.push(original_times(&text, repeats));
+            public.push(library_times(&calls, repeats, call_public));
+            inner.push(library_times(&calls, repeats, call_inner));
+            checks.push(check_time(&calls));
         }
-        let shape = median(&library, "trail_length");
-        println!("{clauses} clauses, {} mode, {} calls a run; a public call's shape check: {shape:.0} ns", if standard { "standard" } else { "the other" }, calls.len());
-        println!("  {:12} {:>12} {:>12} {:>8} {:>16} {:>8}", "call", "original ns", "library ns", "ratio", "less the check", "ratio");
-        for kind in ["assign", "undo_last", "undo_until", "next", "sync", "propose", "register"] {
-            let (theirs, ours) = (median(&original, kind), median(&library, kind));
-            if ours > 0.0 {
-                let inner = (ours - shape).max(0.0);
-                println!("  {kind:12} {theirs:12.0} {ours:12.0} {:8.2} {inner:16.0} {:8.2}", ours / theirs, inner / theirs);
-            }
-        }
-        let theirs = median(&original, "sync") + median(&original, "propose");
-        let ours = median(&library, "sync") + median(&library, "propose");
-        let inner = ours - 2.0 * shape;
-        println!("  {:12} {theirs:12.0} {ours:12.0} {:8.2} {inner:16.0} {:8.2}", "sync+propose", ours / theirs, inner / theirs);
+        let mode = if standard { "standard" } else { "the other" };
+        println!("{clauses} clauses, {mode} mode, {} calls a run; the shape check alone: {:.0} ns", calls.len(), median(checks));
+        print_kinds(&original, &public, &inner);
     }
 }
 
-fn median(turns: &[Times], kind: &str) -> f64 {
-    let mut all: Vec<f64> = turns.iter().filter_map(|times| times.get(kind).copied()).collect();
-    all.sort_by(|a, b| a.total_cmp(b));
-    all.get(all.len() / 2).copied().unwrap_or(0.0)
-}
-
-/// A run like a solver's: what is proposed is decided, now and then forbidden, and taken back where a clause is dead.
-fn solving(clauses: u32, standard: bool) -> Vec<String> {
-    let mut dice = Dice::new(7);
-    let mut store = Store::new();
-    let mut calls: Vec<String> = vec![];
-    let mut say = |store: &mut Store, call: String| -> String {
-        let answer = Call::read(&call).expect("a call").answer(store);
-        if takes(&answer) {
-            calls.push(call);
-        }
-        answer
+/// A line a kind, and one for a sync with its proposal.
+fn print_kinds(original: &[Times], public: &[Times], inner: &[Times]) {
+    println!("  {:12} {:>11} {:>10} {:>7} {:>10} {:>7}", "call", "original ns", "public ns", "ratio", "inner ns", "ratio");
+    let line = |name: &str, kinds: &[&str]| {
+        let sum = |turns: &[Times]| -> f64 {
+            kinds.iter().map(|kind| median(turns.iter().filter_map(|times| times.get(*kind).copied()).collect())).sum()
+        };
+        let (theirs, ours, within) = (sum(original), sum(public), sum(inner));
+        println!("  {name:12} {theirs:11.1} {ours:10.1} {:7.2} {within:10.1} {:7.2}", ours / theirs, within / theirs);
     };
-    say(&mut store, "fresh".to_string());
-    let sets = (clauses / 2).min(256);
-    for set in 0..sets {
-        say(&mut store, format!("vs {set} {}", set % 128));
-        let cells: String = (0..4).map(|_| format!(" {}", 1 + dice.below(511))).collect();
-        say(&mut store, format!("cand s {set}{cells}"));
+    for kind in KINDS {
+        line(kind, &[kind]);
     }
-    for disjunction in 0..64 {
-        let call = format!("disj {disjunction} {} {}", 1 + dice.below(511), dice.below(2));
-        say(&mut store, call);
-    }
-    for name in (0..128).step_by(4) {
-        say(&mut store, format!("hot {name}"));
-        say(&mut store, format!("activity {name} {}", f32::to_bits(1.0 + (name % 5) as f32)));
-    }
-    if !standard {
-        say(&mut store, "mode 0".to_string());
-    }
-    for clause in 0..clauses {
-        let parent = if dice.often(20) { 0 } else { 1 + dice.below(511) };
-        let condition = if dice.often(10) { dice.below(64).to_string() } else { "-".to_string() };
-        say(&mut store, format!("register {parent} s {} {condition} {}", dice.below(sets), 1000 + clause));
-    }
-    say(&mut store, "assign 0 1 1 0".to_string());
-    let mut level = 2;
-    for _ in 0..400 {
-        say(&mut store, "sync".to_string());
-        let said = say(&mut store, "propose".to_string());
-        let words: Vec<&str> = said.split(' ').collect();
-        if words[0] == "choose" {
-            let value = u32::from(dice.often(85));
-            say(&mut store, format!("assign {} {value} {level} {}", words[1], words[3]));
-            level += 1;
-            if dice.often(30) {
-                let variable = 1 + dice.below(511);
-                say(&mut store, format!("assign {variable} {} {level} 0", dice.below(2)));
-            }
-            say(&mut store, "next".to_string());
-        } else {
-            level = (level - dice.below(level)).max(2);
-            say(&mut store, format!("undo_until {}", level - 1));
-        }
-    }
-    calls
+    line("sync+propose", &["sync", "propose"]);
+}
+
+fn median(mut all: Vec<f64>) -> f64 {
+    all.sort_by(f64::total_cmp);
+    all.get(all.len() / 2).copied().unwrap_or(f64::NAN)
 }
 
 /// The original's own timing of a script, by kind of call.
-fn original_times(text: &str) -> Times {
-    let said = run(&["bench", &REPEATS.to_string()], text).unwrap_or_else(|error| panic!("the original does not run ({error}); host/original.sh builds it"));
+fn original_times(text: &str, repeats: u32) -> Times {
+    let said = run(&["bench", &repeats.to_string()], text)
+        .unwrap_or_else(|error| panic!("the original does not run ({error}); host/original.sh builds it"));
     said.lines()
         .filter_map(|line| {
             let words: Vec<&str> = line.split_whitespace().collect();
@@ -131,33 +110,38 @@ fn named(kind: &str) -> &str {
 }
 
 /// The same timing of the library: each call between two looks at the clock, less what the looks cost.
-fn library_times(calls: &[String]) -> Times {
-    let calls: Vec<Call> = calls.iter().map(|call| Call::read(call).expect("a call")).collect();
+fn library_times(calls: &[Call], repeats: u32, make: impl Fn(&Call, &mut Store)) -> Times {
     let cost = (0..1000).map(|_| Instant::now().elapsed().as_nanos()).min().unwrap_or(0);
     let mut store = Store::new();
     let mut sums: BTreeMap<&str, (u128, u64)> = BTreeMap::new();
-    for turn in 0..2 * REPEATS {
-        for call in &calls {
+    for turn in 0..2 * repeats {
+        for call in calls {
             let began = Instant::now();
-            timed(call, &mut store);
+            make(call, &mut store);
             let took = began.elapsed().as_nanos().saturating_sub(cost);
-            if turn >= REPEATS {
+            if turn >= repeats {
                 let sum = sums.entry(call.kind()).or_default();
                 *sum = (sum.0 + took, sum.1 + 1);
             }
         }
     }
-    let began = Instant::now();
-    for _ in 0..10_000 {
-        black_box(store.trail_length().ok());
-    }
-    let mut times: Times = sums.into_iter().map(|(kind, (sum, count))| (kind.to_string(), sum as f64 / count as f64)).collect();
-    times.insert("trail_length".to_string(), began.elapsed().as_nanos() as f64 / 10_000.0);
-    times
+    sums.into_iter().map(|(kind, (sum, count))| (kind.to_string(), sum as f64 / count as f64)).collect()
 }
 
-/// The call without the words of its answer.
-fn timed(call: &Call, store: &mut Store) {
+/// The shape check of the store that the calls leave.
+fn check_time(calls: &[Call]) -> f64 {
+    let mut store = Store::new();
+    calls.iter().for_each(|call| call_public(call, &mut store));
+    let words = store.words();
+    let began = Instant::now();
+    for _ in 0..CHECKS {
+        black_box(unsafe { inner::inner_sound(words.as_ptr(), words.len()) });
+    }
+    began.elapsed().as_nanos() as f64 / f64::from(CHECKS)
+}
+
+/// The public call, without the words of its answer.
+fn call_public(call: &Call, store: &mut Store) {
     match call {
         Call::Sync => drop(black_box(store.sync())),
         Call::Propose => drop(black_box(store.propose())),
@@ -170,4 +154,30 @@ fn timed(call: &Call, store: &mut Store) {
         }
         other => drop(black_box(other.answer(store))),
     }
+}
+
+/// The inner call, where there is one. Public calls alone made the store, and inner ones keep it sound.
+fn call_inner(call: &Call, store: &mut Store) {
+    let mut out = [0; 7];
+    let o = out.as_mut_ptr();
+    let words = store.words_mut();
+    let (s, n) = (words.as_mut_ptr(), words.len());
+    let number = unsafe {
+        match *call {
+            Call::Sync => inner::inner_sync(s, n, o),
+            Call::Propose => inner::inner_propose(s, n, o),
+            Call::Assign { variable, value, level, clause } => {
+                inner::inner_assign(s, n, variable, value as u32, level, clause, o)
+            }
+            Call::UndoLast => inner::inner_undo_last(s, n, o),
+            Call::UndoUntil(level) => inner::inner_undo_until(s, n, level),
+            Call::Next => inner::inner_next(s, n, o),
+            Call::Register { parent, requirement, condition, clause } => {
+                let (kind, id) = requirement.words();
+                inner::inner_register(s, n, parent, kind, id, condition.word(), clause)
+            }
+            _ => return call_public(call, store),
+        }
+    };
+    black_box((number, out));
 }

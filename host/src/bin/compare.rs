@@ -39,18 +39,48 @@ fn main() {
             }
             check(name, &batch, &mut tally);
         }
-        println!("{} scripts, {} calls, {} compared, {:.0} s", tally.scripts, tally.calls, tally.compared, began.elapsed().as_secs_f64());
+        println!(
+            "{} scripts, {} calls, {} compared, {:.0} s",
+            tally.scripts,
+            tally.calls,
+            tally.compared,
+            began.elapsed().as_secs_f64()
+        );
     }
     for (answer, count) in &tally.answers {
         println!("  {answer}: {count}");
     }
-    println!("no difference in {} calls ({} of them compared, the rest refused) over {} scripts", tally.calls, tally.compared, tally.scripts);
+    println!(
+        "no difference in {} calls ({} of them compared, the rest refused) over {} scripts",
+        tally.calls, tally.compared, tally.scripts
+    );
 }
 
 /// Every script of a few calls over two clauses that share a requirement and a condition.
 fn short_scripts(calls: u64, tally: &mut Tally) {
-    let world = ["fresh", "vs 0 0", "vs 1 1", "cand s 0 1 2", "cand s 1 2 3", "disj 0 3 0", "hot 1", "register 0 s 0 - 10", "register 1 s 1 0 11"];
-    let moves = ["assign 0 1 1 0", "assign 1 1 2 0", "assign 2 0 2 0", "assign 3 0 3 0", "undo_last", "undo_until 1", "sync", "propose", "activity 1 1073741824", "register 0 s 1 - 12"];
+    let world = [
+        "fresh",
+        "vs 0 0",
+        "vs 1 1",
+        "cand s 0 1 2",
+        "cand s 1 2 3",
+        "disj 0 3 0",
+        "hot 1",
+        "register 0 s 0 - 10",
+        "register 1 s 1 0 11",
+    ];
+    let moves = [
+        "assign 0 1 1 0",
+        "assign 1 1 2 0",
+        "assign 2 0 2 0",
+        "assign 3 0 3 0",
+        "undo_last",
+        "undo_until 1",
+        "sync",
+        "propose",
+        "activity 1 1073741824",
+        "register 0 s 1 - 12",
+    ];
     let mut length = 1;
     let mut total = 0;
     let mut batch: Vec<Vec<Line>> = vec![];

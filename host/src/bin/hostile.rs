@@ -17,14 +17,14 @@ const GUARD: usize = 64;
 
 fn main() {
     let wanted: u64 = std::env::args().nth(1).map_or(10_000_000, |word| word.parse().expect("CALLS is a number"));
-    std::thread::spawn(watch);
-    let began = Instant::now();
     let mut dice = Dice::new(20);
     let mut answers = [0u64; 13];
     let mut words = vec![0u32; Store::size() + GUARD];
     let mut length = Store::size();
     let mut lists = Lists::new();
     let stores = reached(&mut dice);
+    std::thread::spawn(watch);
+    let began = Instant::now();
     let step = (wanted / 10).max(1);
     for call in 0..wanted {
         if call % 50 == 0 {
@@ -173,7 +173,8 @@ fn attempt(dice: &mut Dice, words: &mut [u32], length: usize, lists: &mut Lists)
     }
     lists.before.clear();
     lists.before.extend_from_slice(words);
-    let (a, b, c, d, trail, out) = (lists.a.clone(), lists.b.clone(), lists.c.clone(), lists.d.clone(), lists.trail.clone(), lists.out);
+    let (a, b, c, d, trail, out) =
+        (lists.a.clone(), lists.b.clone(), lists.c.clone(), lists.d.clone(), lists.trail.clone(), lists.out);
     let (number, reads) = made(kind, dice, words, length, lists);
     assert!(number <= 12, "call {kind} answered {number}");
     let lent_same = lists.a == a && lists.b == b && lists.c == c && lists.d == d && lists.trail == trail;
