@@ -6,7 +6,7 @@ use mathlib.Core.Path.{_≡_, refl, sym, ap, _∙_}
 use Prim.Native.Nat.{ℕ, zero, suc, _+_, _-_, _≤_, _<_, max}
 use native.Mathlib.Numerals.{add-one}
 use native.Mathlib.Omega.{arith}
-use borrow.Author.Tests.{eq-eqb, ne-eqb, lt-ltb, le-ltb, ltb-true, ltb-false}
+use borrow.Author.Tests.{eq-eqb, ne-eqb, lt-ltb, le-ltb}
 use lib.Dec.{eqb, ltb}
 use Rattle.evaluate.proofs.Records.{clause-word}
 use Rattle.evaluate.proofs.Turns.{from-next, from-done}
@@ -90,11 +90,11 @@ module _ (w : List ℕ) (i t a : ℕ) (is : t ≡ largestAt w i) (next : a ≡ a
   unfolding largest largestAt
   largest-next = rw (add-one, is, next)
 
-  pub largest-more : ltb t a ≡ true → a ≡ largestAt w (i + 1)
-  largest-more h = omega (arith, largest-next, ltb-true t a h)
+  pub largest-more : t < a → a ≡ largestAt w (i + 1)
+  largest-more h = omega (arith, largest-next)
 
-  pub largest-kept : ltb t a ≡ false → t ≡ largestAt w (i + 1)
-  largest-kept h = omega (arith, largest-next, ltb-false t a h)
+  pub largest-kept : a ≤ t → t ≡ largestAt w (i + 1)
+  largest-kept h = omega (arith, largest-next)
 
 pub largest-none : (w : List ℕ) → 0 ≡ largestAt w 0
 unfolding largest largestAt

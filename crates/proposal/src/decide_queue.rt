@@ -97,7 +97,7 @@ fn passed_over(s: &[u32], b: Best, k: usize) -> bool
     is_cold(s, k)
 }
 
-// The largest of the first n activities.
+// The largest of the first n activities, by their bits, whose order is the floats'.
 fn largest_of(s: &[u32], n: usize) -> u32
     requires { ⌜ (Sound (now s)) × (n ≤ names) ⌝ }
     ensures { λ r. ⌜ r ≡ largestAt (now (s .entry)) n ⌝ }
@@ -106,7 +106,7 @@ fn largest_of(s: &[u32], n: usize) -> u32
     let mut i: usize = 0;
     while i < n {
         let a = read::activity(s, i);
-        if activity::higher(top, a) {
+        if top < a {
             top = a;
         }
         i += 1;

@@ -1,9 +1,9 @@
 use mathlib.Core.Logic.{⊎-elim}
-use mathlib.Core.Path.{ap, sym, _∙_, _≡_}
+use mathlib.Core.Path.{ap, _∙_, _≡_}
 use Prim.Native.Nat.{_-_, _≤_}
 use native.Mathlib.Omega.{arith}
 use borrow.Author.Needs.{needs}
-use Rattle.proposal.proofs.Steps.{activity-most, largest-good, largest-kept, largest-more, largest-none}
+use Rattle.proposal.proofs.Steps.{largest-kept, largest-more, largest-none}
 use Rattle.proposal.specs.Turn.{largestAt}
 use Rattle.proposal.proofs.decide_queue.largest_of.Statement.{statement}
 use Rattle.proposal.proofs.decide_queue.largest_of.Tie as tie
@@ -20,9 +20,6 @@ loop-holds c = (omega arith, largest-none _)
 activity-requires : tie.Need-activity-requires Inv-loop μ-loop
 activity-requires c κs = (c .before .before .before .pre .0 .long, omega (arith, c .loop-test .taken, c .before .before .before .pre .1))
 
-higher-requires : tie.Need-higher-requires Inv-loop μ-loop
-higher-requires c κs = (largest-good _ (c .before .before .before .before .pre .0) _ _ (c .before .before .loop .inv .1), activity-most _ (c .before .before .before .before .pre .0) _ _ (c .activity .ensures))
-
 add-i : tie.Need-add-i Inv-loop μ-loop
 add-i c = search needs
 
@@ -30,7 +27,7 @@ loop-less : tie.Need-loop-less Inv-loop μ-loop
 loop-less c = search needs
 
 loop-again : tie.Need-loop-again Inv-loop μ-loop
-loop-again c = (omega arith, ⊎-elim (λ w. w .1 ∙ largest-more _ _ _ _ (c .before .before .before .before .loop .inv .1) (c .before .before .activity .ensures) (sym (c .before .higher .ensures .1) ∙ w .0 .taken)) (λ w. w .1 ∙ largest-kept _ _ _ _ (c .before .before .before .before .loop .inv .1) (c .before .before .activity .ensures) (sym (c .before .higher .ensures .1) ∙ w .0 .left)) (c .if1 .came))
+loop-again c = (omega arith, ⊎-elim (λ w. w .1 ∙ largest-more _ _ _ _ (c .before .before .before .loop .inv .1) (c .before .activity .ensures) (w .0 .taken)) (λ w. w .1 ∙ largest-kept _ _ _ _ (c .before .before .before .loop .inv .1) (c .before .activity .ensures) (w .0 .left)) (c .if1 .came))
 
 returns : tie.Need-returns Inv-loop μ-loop
 returns c = c .before .loop .inv .1 ∙ ap (largestAt _) (omega arith)
@@ -43,7 +40,6 @@ largest-of-spec =
     μ-loop
     loop-holds
     activity-requires
-    higher-requires
     add-i
     loop-less
     loop-again
