@@ -1,8 +1,8 @@
 /*
  * A first program in C: a pack is loaded, a proposal is asked for, tried, taken back and asked for again. The button has not moved.
  *
- *     rt staticlib imbolaverk
- *     cc -std=c99 -Wall -Wextra -Iinclude examples/first.c target/staticlib/libimbolaverk.a -o target/first
+ *     host/library.sh
+ *     cc -std=c99 -Wall -Wextra -Iinclude examples/first.c target/library/libimbolaverk.a -o target/first
  *     target/first
  *
  * The archive is x86-64, so cc must be a compiler for x86-64. What it prints:

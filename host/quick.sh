@@ -1,6 +1,6 @@
 #!/bin/sh
-# A quick pass of compare and hostile, about a minute. Says so and passes where there is no Rust compiler, and on a machine other than
-# x86-64, for which the library is compiled; without the original only the hostile calls run.
+# A quick pass of compare and hostile, about a minute once the library is proved. Says so and passes where there is no Rust compiler;
+# without the original only the hostile calls run.
 set -e
 here=$(cd "$(dirname "$0")/.." && pwd)
 cd "$here"
@@ -8,11 +8,7 @@ if ! command -v cargo >/dev/null 2>&1; then
     echo "host: skipped, there is no cargo here"
     exit 0
 fi
-if [ "$(uname -m)" != x86_64 ]; then
-    echo "host: skipped, the library is compiled for x86-64 and this machine is $(uname -m)"
-    exit 0
-fi
-rt staticlib imbolaverk
+host/library.sh imbolaverk
 cd "$here/host"
 cargo build --release --offline --quiet
 if [ -d "${SHARED:-$here/../shared}/oracle" ]; then
@@ -24,6 +20,6 @@ fi
 ./target/release/hostile 400000
 cargo test --release --offline --quiet
 if command -v cc >/dev/null 2>&1; then
-    cc -std=c99 -Wall -Wextra -Werror -I"$here/include" "$here/examples/first.c" "$here/target/staticlib/libimbolaverk.a" -o "$here/target/first"
+    cc -std=c99 -Wall -Wextra -Werror -I"$here/include" "$here/examples/first.c" "$here/target/library/libimbolaverk.a" -o "$here/target/first"
     "$here/target/first"
 fi

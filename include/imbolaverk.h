@@ -1,7 +1,7 @@
 /*
  * Imbolaverk: a decision queue over one lent slice of words.
  *
- * Link libimbolaverk.a (`rt staticlib imbolaverk` writes target/staticlib/libimbolaverk.a, for x86-64). The library allocates nothing and keeps
+ * Link libimbolaverk.a (`host/library.sh` writes target/library/libimbolaverk.a for the machine at hand). The library allocates nothing and keeps
  * nothing between calls: all of its state is in the words that the caller lends. Of the C library it needs memcpy and memset.
  *
  * Every call takes the store first, as a pointer and its length in words; every other list is a pointer and a length too. An output

@@ -395,6 +395,23 @@ impl Script {
         self.say(call);
     }
 
+    /// Syncs and asks: the variable proposed and its clause, if one is.
+    fn chosen(&mut self) -> Option<(String, String)> {
+        self.say("sync");
+        let said = self.say("propose");
+        match said.split(' ').collect::<Vec<_>>()[..] {
+            ["choose", variable, _, clause, ..] => Some((variable.to_string(), clause.to_string())),
+            _ => None,
+        }
+    }
+
+    /// Takes back to some lower level, and tells the level to go on with.
+    fn go_back(&mut self, level: u32) -> u32 {
+        let next = (level - self.dice.below(level)).max(2);
+        self.say(format!("undo_until {}", next - 1));
+        next
+    }
+
     /// Accepts what is proposed; takes back where nothing is left to choose.
     fn settling(&mut self) {
         self.tables();
@@ -407,19 +424,15 @@ impl Script {
         self.say("assign 0 1 1 0");
         let mut level = 2;
         for _ in 0..self.size.calls {
-            self.say("sync");
-            let said = self.say("propose");
-            let words: Vec<&str> = said.split(' ').collect();
-            match words[0] {
-                "choose" if self.dice.often(80) => {
+            match self.chosen() {
+                Some((variable, clause)) if self.dice.often(80) => {
                     let value = u32::from(self.dice.often(75));
-                    self.say(format!("assign {} {value} {level} {}", words[1], words[3]));
+                    self.say(format!("assign {variable} {value} {level} {clause}"));
                     level += 1;
                 }
-                "choose" => self.tune(),
-                _ => {
-                    level = (level - self.dice.below(level)).max(2);
-                    self.say(format!("undo_until {}", level - 1));
+                Some(_) => self.tune(),
+                None => {
+                    level = self.go_back(level);
                     self.assign();
                 }
             }
@@ -461,6 +474,7 @@ impl Script {
             }
         }
     }
+
     /// A variable that is not the root.
     fn other_variable(&mut self) -> u32 {
         1 + self.dice.below(self.size.variables - 1)
@@ -496,12 +510,9 @@ impl Script {
         self.say("assign 0 1 1 0");
         let mut level = 2;
         for _ in 0..self.size.calls {
-            self.say("sync");
-            let said = self.say("propose");
-            let words: Vec<&str> = said.split(' ').collect();
-            if words[0] == "choose" {
+            if let Some((variable, clause)) = self.chosen() {
                 let value = u32::from(self.dice.often(85));
-                self.say(format!("assign {} {value} {level} {}", words[1], words[3]));
+                self.say(format!("assign {variable} {value} {level} {clause}"));
                 level += 1;
                 if self.dice.often(30) {
                     let call = format!("assign {} {} {level} 0", self.other_variable(), self.dice.below(2));
@@ -509,8 +520,7 @@ impl Script {
                 }
                 self.say("next");
             } else {
-                level = (level - self.dice.below(level)).max(2);
-                self.say(format!("undo_until {}", level - 1));
+                level = self.go_back(level);
             }
         }
         for _ in 0..self.size.calls / 4 {
