@@ -115,7 +115,7 @@ module _ (w : List ℕ) (variable value level clause : ℕ) (f : Fitting w varia
       let q = at-puts-here trailValues (entries w) value (toMap ∷ toVariables ∷ []) toRest w (omega (arith, long)) (f .room) tt rest-in in
       λ i. record { variable = p i; positive = eqb (q i) 1 }
 
-  pushed-entries : (k : ℕ) → k < entries w → entryAt after k ≡ entryAt w k
+  pub pushed-entries : (k : ℕ) → k < entries w → entryAt after k ≡ entryAt w k
   unfolding pushed
   pushed-entries k l =
       let p = at-puts-else trailVariables (entries w) k variable (toMap ∷ []) (toValues ∷ toRest) w (omega arith) (f .room) tt (f .variable<, tt) tt (f .room, rest-in) in
@@ -147,12 +147,14 @@ assign-genuine w variable value level clause g = cond-either Genuine (soundShape
     go (Refused n) e = g
 
 -- TAKING BACK
+pub popped-entries : (w : List ℕ) → Sound w → (k : ℕ) → entryAt (popped w) k ≡ entryAt w k
+popped-entries w h k =
+    let fit = entered w h in
+    entry-by (popped w) w k (popped-kept w fit trailVariables k tt) (popped-kept w fit trailValues k tt)
+
 module _ (w : List ℕ) (g : Genuine w) where
   fit : Entered w
   fit = entered w (g .sound)
-
-  popped-entries : (k : ℕ) → entryAt (popped w) k ≡ entryAt w k
-  popped-entries k = entry-by (popped w) w k (popped-kept w fit trailVariables k tt) (popped-kept w fit trailValues k tt)
 
   abbrev last : ℕ
   last = at trailVariables (entries w - 1) w
@@ -173,7 +175,7 @@ module _ (w : List ℕ) (g : Genuine w) where
   unfolding assigned cellValue
   popped-genuine some =
       let n : ℕ = entries w - 1 in
-      let e = trail-cut (popped w) w n (popped-count w fit) (omega arith) (λ k l. popped-entries k) in
+      let e = trail-cut (popped w) w n (popped-count w fit) (omega arith) (λ k l. popped-entries w (g .sound) k) in
       trailed-genuine (popped w) w (popped-outside w (g .sound)) (take n (trailOf w)) (min (at syncFloor 0 w) n) e
       (popped-floor w (g .sound)) (undo n) (popped-sound w (g .sound))
       (mapped-popped (popped w) w (g .mapped) n (omega arith) e (ap cellValue popped-cell) (λ v d. ap cellValue (popped-cells v d)))

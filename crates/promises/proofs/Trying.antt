@@ -15,6 +15,7 @@ use Rattle.promises.proofs.Calling.{call-genuine, reached-genuine, reac
 use Rattle.promises.proofs.Demands.{demand3}
 use Rattle.promises.proofs.Genuine.{Genuine}
 use Rattle.promises.proofs.Outside.{outside}
+use Rattle.promises.proofs.Trailing.{popped-entries, pushed-entries}
 use Rattle.promises.proofs.Trails.{trail-cut}
 use Rattle.promises.specs.Regions.{ApartAll, writesIn}
 use Rattle.promises.specs.Six.{SameSix, undropped}
@@ -22,21 +23,20 @@ use Rattle.promises.specs.Trying.{Asks, TakesBack, entriesRegion}
 use Rattle.proposal.specs.Propose.{proposalOut, unsynced}
 use Rattle.rules.specs.Sync.{Entry, value}
 use Rattle.rules.specs.Walk.{Environment}
-use Rattle.store.proofs.AreaLaws.{at-kept, at-puts-else, at-same}
+use Rattle.store.proofs.AreaLaws.{at-kept, at-same}
 use Rattle.store.proofs.Choice.{cond-either}
 use Rattle.store.proofs.Soundness.{sound-shape}
-use Rattle.store.specs.Area.{Inside, Write, area, at, put, write}
-use Rattle.store.specs.Layout.{environmentRegion, hotNames, map, mode, propagated, trailClauses, trailLength, trailValues, trailVariables}
+use Rattle.store.specs.Area.{area, at, put}
+use Rattle.store.specs.Layout.{environmentRegion, hotNames, mode, propagated, trailLength, trailValues, trailVariables}
 use Rattle.store.specs.Limits.{lastLevel}
 use Rattle.store.specs.Shape.{Sound, soundShape}
 use Rattle.sync.proofs.Kept.{sync-outside}
 use Rattle.sync.proofs.Standing.{sync-floor, sync-mirror-length, sync-trail}
 use Rattle.sync.specs.Sync.{syncInStore, syncStore}
-use Rattle.trail.proofs.Assigning.{Fitting, new-fits, new-leaves}
+use Rattle.trail.proofs.Assigning.{new-fits, new-leaves}
 use Rattle.trail.proofs.Kept.{assign-public, cleared-count, popped-sound, pushed-count, undo-last-public}
-use Rattle.trail.proofs.Popping.{entered, popped-count, popped-kept}
-use Rattle.trail.specs.Assign.{assignIn, assignInStore, assignLeft, assignOut, assignStore, pushed}
-use Rattle.trail.specs.Cell.{cellOf}
+use Rattle.trail.proofs.Popping.{entered, popped-count}
+use Rattle.trail.specs.Assign.{assignIn, assignInStore, assignLeft, assignOut, assignStore}
 use Rattle.trail.specs.Entries.{entries, levelOfLast}
 use Rattle.trail.specs.Next.{nextInStore, nextStore}
 use Rattle.trail.specs.UndoLast.{popped, undoLastInStore, undoLastStore}
@@ -45,25 +45,6 @@ use Rattle.trail.specs.declared.Assigned.{Assigned}
 use Rattle.trail.specs.declared.Assigned.the-variants.{Already, New, Refused}
 
 -- THE FIRST ENTRIES STAY in every such call that leaves so many
-pushed-below : (w : List ℕ) (variable value level clause : ℕ) → Fitting w variable value level → (k : ℕ) → k < entries w →
-    entryAt (pushed w variable value level clause) k ≡ entryAt w k
-unfolding pushed
-pushed-below w variable value level clause f k l =
-    let n = entries w in
-    let cell : Write = write map variable (cellOf value level) in
-    let name : Write = write trailVariables n variable in
-    let side : Write = write trailValues n value in
-    let rest : List Write = write trailClauses n clause ∷ write trailLength 0 (n + 1) ∷ [] in
-    let rest-in : Inside rest = (f .room, (omega arith, tt)) in
-    entry-by (pushed w variable value level clause) w k
-    (at-puts-else trailVariables n k variable (cell ∷ []) (side ∷ rest) w (omega arith) (f .room) tt (f .variable<, tt) tt (f .room, rest-in))
-    (at-puts-else trailValues n k value (cell ∷ name ∷ []) rest w (omega arith) (f .room) tt (f .variable<, (f .room, tt)) tt rest-in)
-
-popped-entries : (w : List ℕ) → Sound w → (k : ℕ) → entryAt (popped w) k ≡ entryAt w k
-popped-entries w h k =
-    let fit = entered w h in
-    entry-by (popped w) w k (popped-kept w fit trailVariables k tt) (popped-kept w fit trailValues k tt)
-
 popped-to-entries : (level m : ℕ) (w : List ℕ) → Sound w → (k : ℕ) → entryAt (poppedTo level m w) k ≡ entryAt w k
 unfolding poppedTo
 popped-to-entries level zero w h k = refl
@@ -89,7 +70,7 @@ module _ (w : List ℕ) (h : Sound w) (n : ℕ) (l : n ≤ entries w) where
       cond-either Stay (soundShape w) (assignInStore w variable value level clause) w (λ e. go (assignIn w variable value level) refl) (λ e. self)
     where
       go : (r : Assigned) → assignIn w variable value level ≡ r → Stay (assignLeft r w variable value level clause)
-      go New e = λ m k q. pushed-below w variable value level clause (new-fits w variable value level e) k (omega arith)
+      go New e = λ m k q. pushed-entries w variable value level clause (new-fits w variable value level e) k (omega arith)
       go Already e = self
       go (Refused x) e = self
 
