@@ -13,6 +13,7 @@ use Rattle.store.specs.Codes.{noCondition}
 use Rattle.store.specs.Layout.{queued, map, clauseCount, conditionTotal, nameTotal, clauseParents, clauseRequirements, clauseConditions, clauseIds}
 use Rattle.store.specs.Limits.{variables, clauses, conditionRoom, nameRoom, requirements}
 use Rattle.store.specs.Ranks.{inserted}
+use Rattle.store.specs.Refusals.{badId, badStore, noRoom}
 use Rattle.store.specs.Shape.{soundShape}
 use Rattle.tables.specs.Disjunction.{disjunctionLoaded, literalsOf}
 use Rattle.trail.specs.Cell.{cellSide}
@@ -48,8 +49,8 @@ hasRoom w key condition =
 -- on a store of sound shape: the tests 2 and 3
 unfoldable pub registerIn : List ℕ → ℕ → ℕ → ℕ → ℕ → Registered
 registerIn w parent kind requirement condition =
-    cond (not (allNamed w parent kind requirement condition)) (Refused 2)
-    (cond (not (hasRoom w (keyAt kind requirement) condition)) (Refused 3)
+    cond (not (allNamed w parent kind requirement condition)) (Refused badId)
+    (cond (not (hasRoom w (keyAt kind requirement) condition)) (Refused noRoom)
     Done)
 
 -- what "done" says of the clause
@@ -98,7 +99,7 @@ registerInStore w parent kind requirement condition clause =
 
 -- on any words
 unfoldable pub registerOut : List ℕ → ℕ → ℕ → ℕ → ℕ → Registered
-registerOut w parent kind requirement condition = cond (soundShape w) (registerIn w parent kind requirement condition) (Refused 1)
+registerOut w parent kind requirement condition = cond (soundShape w) (registerIn w parent kind requirement condition) (Refused badStore)
 
 -- "Each refusal but 8 changes no word of the store"
 unfoldable pub registerStore : List ℕ → ℕ → ℕ → ℕ → ℕ → ℕ → List ℕ

@@ -2,6 +2,7 @@
 ghost use mathlib.Core.Path.{_≡_};
 ghost use Rattle.clauses.specs.Register.{registerOut, registerStore};
 use requirement::Requirement;
+use store::refusals;
 use store::shape;
 
 pub mod records;
@@ -34,5 +35,5 @@ pub fn register(
     if shape::sound(s) {
         return registering::register(s, parent, kind, requirement, condition, clause);
     }
-    Registered::Refused(1)
+    Registered::Refused(refusals::BAD_STORE)
 }

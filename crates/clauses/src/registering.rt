@@ -20,6 +20,7 @@ use store::codes;
 use store::limits;
 use store::ranks;
 use store::read;
+use store::refusals;
 use store::wide;
 use store::write;
 use tables::disjunction;
@@ -144,11 +145,11 @@ fn register_case(s: &[u32], parent: u32, kind: u32, requirement: u32, condition:
     ensures { λ r. ⌜ r ≡ registerIn (now (s .entry)) parent kind requirement condition ⌝ }
 {
     if is_named(s, parent, kind, requirement, condition) {} else {
-        return Registered::Refused(2);
+        return Registered::Refused(refusals::BAD_ID);
     }
     let key = candidates::key_of(candidates::requirement_of(kind, requirement));
     if has_room(s, key, condition) {} else {
-        return Registered::Refused(3);
+        return Registered::Refused(refusals::NO_ROOM);
     }
     Registered::Done
 }

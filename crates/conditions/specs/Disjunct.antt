@@ -9,6 +9,7 @@ use Rattle.store.specs.Area.{at}
 use Rattle.store.specs.Layout.{map}
 use Rattle.store.specs.Limits.{lastVariable}
 use Rattle.store.specs.Numbers.{allFrom}
+use Rattle.store.specs.Refusals.{badId, badStore}
 use Rattle.store.specs.Shape.{every, upTo, soundShape}
 use Rattle.trail.specs.Cell.{cellSide}
 use Rattle.conditions.specs.declared.Holds.{Holds}
@@ -48,12 +49,12 @@ saneAll kinds starts lengths cells =
 -- on a store of sound shape
 unfoldable pub disjunctIn : List ℕ → List ℕ → List ℕ → List ℕ → List ℕ → Holds
 disjunctIn w kinds starts lengths cells =
-    cond (not (saneAll kinds starts lengths cells)) (Refused 2)
+    cond (not (saneAll kinds starts lengths cells)) (Refused badId)
     (cond (allFrom (holdsAt w starts lengths cells) 0 (length kinds)) Yes No)
 
 -- on any words
 unfoldable pub disjunctOut : List ℕ → List ℕ → List ℕ → List ℕ → List ℕ → Holds
-disjunctOut w kinds starts lengths cells = cond (soundShape w) (disjunctIn w kinds starts lengths cells) (Refused 1)
+disjunctOut w kinds starts lengths cells = cond (soundShape w) (disjunctIn w kinds starts lengths cells) (Refused badStore)
 
 -- the answer's number in document 01
 abbrev pub holdsNumber : Holds → ℕ

@@ -9,6 +9,7 @@ use Rattle.store.specs.Area.{at}
 use Rattle.store.specs.Layout.{nodeKinds}
 use Rattle.store.specs.Lent.{lengthsOf, joined, over}
 use Rattle.store.specs.Limits.{nodes, mostTerms, mostSets}
+use Rattle.store.specs.Refusals.{badId, badStore, noRoom}
 use Rattle.store.specs.Shape.{every, upTo, soundShape}
 use Rattle.conditions.specs.declared.Rewritten.{Rewritten}
 use Rattle.conditions.specs.declared.Rewritten.the-variants.{Terms, Refused}
@@ -24,8 +25,8 @@ tooMuch ts rooms room =
 -- on a store of sound shape, into lists of the given lengths
 unfoldable pub rewriteIn : List ℕ → ℕ → ℕ → ℕ → Rewritten
 rewriteIn w node rooms room =
-    cond (leb nodes node || eqb (at nodeKinds node w) 0) (Refused 2)
-    (cond (tooMuch (terms w node) rooms room) (Refused 3)
+    cond (leb nodes node || eqb (at nodeKinds node w) 0) (Refused badId)
+    (cond (tooMuch (terms w node) rooms room) (Refused noRoom)
     (Terms (length (terms w node)) (length (joined (terms w node)))))
 
 -- only an answer with terms changes a lent list: the list of lengths
@@ -48,7 +49,7 @@ rewriteInCells w node lengths cells = cellsBy (rewriteIn w node (length lengths)
 
 -- on any words
 unfoldable pub rewriteOut : List ℕ → ℕ → ℕ → ℕ → Rewritten
-rewriteOut w node rooms room = cond (soundShape w) (rewriteIn w node rooms room) (Refused 1)
+rewriteOut w node rooms room = cond (soundShape w) (rewriteIn w node rooms room) (Refused badStore)
 
 -- the lent list of lengths: a refusal changes "no lent output"
 unfoldable pub rewriteLengths : List ℕ → ℕ → List ℕ → List ℕ → List ℕ

@@ -13,6 +13,7 @@ use crate::Holds;
 use store::lent;
 use store::limits;
 use store::read;
+use store::refusals;
 use store::wide;
 use trail::decision_map;
 
@@ -111,5 +112,5 @@ pub fn disjunct_holds(
         }
         return Holds::No;
     }
-    Holds::Refused(2)
+    Holds::Refused(refusals::BAD_ID)
 }

@@ -18,6 +18,7 @@ use crate::Way;
 use store::codes;
 use store::limits;
 use store::read;
+use store::refusals;
 use store::wide;
 
 // A place for each link: none, and each node.
@@ -176,15 +177,15 @@ fn rewrite_case(s: &[u32], counts: &[u32; LINKS], node: u32, rooms: usize, room:
     ensures { λ r. ⌜ r ≡ rewriteIn (now (s .entry)) node rooms room ⌝ }
 {
     if limits::NODES as u32 <= node {
-        return Rewritten::Refused(2);
+        return Rewritten::Refused(refusals::BAD_ID);
     }
     let k = wide(node);
     if read::node_kind(s, k) == 0 {
-        return Rewritten::Refused(2);
+        return Rewritten::Refused(refusals::BAD_ID);
     }
     let n = wide(counts[k + 1]);
     if limits::MOST_TERMS < n {
-        return Rewritten::Refused(3);
+        return Rewritten::Refused(refusals::NO_ROOM);
     }
     if all_short(s, counts, k + 1, n) {
         let total = count_cells(s, counts, k + 1, n);
@@ -197,7 +198,7 @@ fn rewrite_case(s: &[u32], counts: &[u32; LINKS], node: u32, rooms: usize, room:
             }
         }
     }
-    Rewritten::Refused(3)
+    Rewritten::Refused(refusals::NO_ROOM)
 }
 
 // Writes the n terms and their lengths.

@@ -3,6 +3,7 @@ ghost use mathlib.Core.Path.{_≡_};
 ghost use lib.ListN.{length};
 ghost use Rattle.conditions.specs.Rewrite.{rewriteOut, rewriteLengths, rewriteCells};
 ghost use Rattle.conditions.specs.Disjunct.{disjunctOut};
+use store::refusals;
 use store::shape;
 
 pub mod disjunct;
@@ -33,7 +34,7 @@ pub fn rewrite(s: &[u32], node: u32, lengths: &mut [u32], cells: &mut [u32]) -> 
     if shape::sound(s) {
         return dnf::rewrite(s, node, lengths, cells);
     }
-    Rewritten::Refused(1)
+    Rewritten::Refused(refusals::BAD_STORE)
 }
 
 // Whether each conjunct, a kind over a range of the cells, has a candidate assigned true.
@@ -49,5 +50,5 @@ pub fn disjunct_holds(
     if shape::sound(s) {
         return disjunct::disjunct_holds(s, kinds, starts, lengths, cells);
     }
-    Holds::Refused(1)
+    Holds::Refused(refusals::BAD_STORE)
 }

@@ -13,7 +13,7 @@ use Rattle.rules.specs.declared.Cache.{Cache}
 use Rattle.rules.specs.declared.Cache.the-variants.{Dirty, Known}
 use Rattle.rules.specs.declared.State.the-variants.{Satisfied, Frontier}
 use Rattle.store.specs.Area.{Area, area, at}
-use Rattle.store.specs.Codes.{dirty, satisfied}
+use Rattle.store.specs.Codes.{dirty, satisfied, standardMode}
 use Rattle.store.specs.Layout.{queued, cacheStates, cacheCandidates, cacheNames, cacheCounts, mirror, mirrorLength, syncFloor, trailLength, trailVariables, trailValues, mode, activities, hotNames, clauseCount, clauseParents, clauseRequirements, clauseConditions, clauseIds}
 use Rattle.store.specs.Limits.{names}
 
@@ -34,7 +34,7 @@ envOf w =
       activity = λ n. at activities n w;
       names = names;
       hot = λ n. eqb (at hotNames n w) 1;
-      standard = eqb (at mode 0 w) 1;
+      standard = eqb (at mode 0 w) standardMode;
     }
 
 -- a cache's four words: dirty; satisfied by a candidate; or a frontier's first candidate, name and count

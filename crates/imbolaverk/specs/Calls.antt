@@ -16,6 +16,7 @@ use Rattle.requirement.specs.Load.{loadOut, loadStore, loadedNumber as tableNum
 use Rattle.settings.specs.Settings.{activityOut, activityStore, hotOut, hotStore, modeNow, modeNumber, modeOut, modeStore, modeValues, nameNow, nameNumber, nameValues, tunedNumber}
 use Rattle.store.specs.Fresh.{freshOut, freshStore, madeNumber}
 use Rattle.store.specs.Layout.{words}
+use Rattle.store.specs.Refusals.{badActivity, badId, badLevel, coldActivity, deadClause, loadedTwice, malformed, noEntryToStop, noRoom, notSynced, otherValue}
 use Rattle.sync.specs.Sync.{syncOut, syncStore, syncedNumber, syncedValues}
 use Rattle.tables.specs.Answer.{loadedNumber}
 use Rattle.tables.specs.Condition.{loadConditionOut, loadConditionStore}
@@ -93,30 +94,30 @@ numberOf w (name-of name) = nameNumber (nameNow w name)
 -- the numbers by which a call refuses, in the order of its tests, beside 1 for words of unsound shape
 abbrev pub refusals : Call → List ℕ
 refusals fresh = []
-refusals (load-version-set set name) = 2 ∷ 12 ∷ []
-refusals (load-union union members) = 2 ∷ 11 ∷ 12 ∷ 3 ∷ []
-refusals (load-candidates kind id lengths cells) = 2 ∷ 11 ∷ 12 ∷ 3 ∷ []
-refusals (load-disjunction disjunction vs signs) = 2 ∷ 12 ∷ 3 ∷ []
-refusals (load-condition node kind left right) = 2 ∷ 11 ∷ 12 ∷ []
-refusals (register parent kind requirement condition clause) = 2 ∷ 3 ∷ []
-refusals (mark-hot name) = 2 ∷ []
-refusals (set-activity name activity fit) = 2 ∷ 9 ∷ 10 ∷ []
-refusals (set-mode mode) = 2 ∷ 10 ∷ []
-refusals (assign variable value level clause) = 2 ∷ 4 ∷ 5 ∷ 3 ∷ []
-refusals undo-last = 6 ∷ []
-refusals (undo-until level) = 4 ∷ 6 ∷ []
+refusals (load-version-set set name) = badId ∷ loadedTwice ∷ []
+refusals (load-union union members) = badId ∷ malformed ∷ loadedTwice ∷ noRoom ∷ []
+refusals (load-candidates kind id lengths cells) = badId ∷ malformed ∷ loadedTwice ∷ noRoom ∷ []
+refusals (load-disjunction disjunction vs signs) = badId ∷ loadedTwice ∷ noRoom ∷ []
+refusals (load-condition node kind left right) = badId ∷ malformed ∷ loadedTwice ∷ []
+refusals (register parent kind requirement condition clause) = badId ∷ noRoom ∷ []
+refusals (mark-hot name) = badId ∷ []
+refusals (set-activity name activity fit) = badId ∷ badActivity ∷ coldActivity ∷ []
+refusals (set-mode mode) = badId ∷ coldActivity ∷ []
+refusals (assign variable value level clause) = badId ∷ badLevel ∷ otherValue ∷ noRoom ∷ []
+refusals undo-last = noEntryToStop ∷ []
+refusals (undo-until level) = badLevel ∷ noEntryToStop ∷ []
 refusals next-unpropagated = []
 refusals sync = []
-refusals propose = 7 ∷ 8 ∷ []
-refusals (value-of variable) = 2 ∷ []
-refusals (clause-of variable) = 2 ∷ []
+refusals propose = notSynced ∷ deadClause ∷ []
+refusals (value-of variable) = badId ∷ []
+refusals (clause-of variable) = badId ∷ []
 refusals trail-length = []
-refusals (copy-trail list) = 3 ∷ []
-refusals (copy-candidates kind id lengths cells) = 2 ∷ 3 ∷ []
-refusals (rewrite node lengths cells) = 2 ∷ 3 ∷ []
-refusals (disjunct-holds kinds starts lengths cells) = 2 ∷ []
+refusals (copy-trail list) = noRoom ∷ []
+refusals (copy-candidates kind id lengths cells) = badId ∷ noRoom ∷ []
+refusals (rewrite node lengths cells) = badId ∷ noRoom ∷ []
+refusals (disjunct-holds kinds starts lengths cells) = badId ∷ []
 refusals settings = []
-refusals (name-of name) = 2 ∷ []
+refusals (name-of name) = badId ∷ []
 
 -- and the values beside it
 abbrev pub valuesOf : List ℕ → Call → List ℕ

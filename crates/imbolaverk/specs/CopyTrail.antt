@@ -5,6 +5,7 @@ use Prim.Native.Nat.{ℕ, zero, suc}
 use lib.Dec.{leb, ltb, eqb}
 use lib.ListN.{length, set}
 use Rattle.store.specs.Layout.{words}
+use Rattle.store.specs.Refusals.{noRoom}
 use Rattle.trail.specs.Entries.{entries, decisionAt}
 use Rattle.trail.specs.Look.{lengthOut}
 use Rattle.imbolaverk.specs.declared.copy_trail.Decision.{Decision}
@@ -22,7 +23,7 @@ copied w list (suc k) = set (copied w list k) k (decisionOf w k)
 
 -- a list of `room` places: all entries, or 3 where it is shorter
 abbrev pub fitted : ℕ → Length → Length
-fitted room (Entries n) = cond (ltb room n) (Refused 3) (Entries n)
+fitted room (Entries n) = cond (ltb room n) (Refused noRoom) (Entries n)
 fitted room (Refused n) = Refused n
 
 -- on any words: how many entries were copied, or why not

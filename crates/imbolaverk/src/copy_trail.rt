@@ -11,6 +11,7 @@ ghost use Rattle.trail.specs.Look.{lengthNumber, lengthValues};
 use crate::trail_calls::give_length;
 use store::areas;
 use store::read;
+use store::refusals;
 use store::wide;
 use trail::Length;
 
@@ -46,7 +47,7 @@ pub fn copy_case(s: &[u32], room: usize) -> Length
     match answer {
         Length::Entries(n) => {
             if room < wide(n) {
-                return Length::Refused(3);
+                return Length::Refused(refusals::NO_ROOM);
             }
             Length::Entries(n)
         }

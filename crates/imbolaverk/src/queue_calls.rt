@@ -10,6 +10,7 @@ use crate::out;
 use proposal::Proposal;
 use settings::activity;
 use settings::activity::Admitted;
+use store::refusals;
 use sync::Synced;
 
 pub fn give_synced(answer: Synced, out: &mut [u32; 1]) -> u32
@@ -56,7 +57,7 @@ pub fn give_proposal(answer: Proposal, out: &mut [u32; 7]) -> u32
         }
         Proposal::Dead { clause, dropped } => {
             out::set_one_and_last(out, 3, clause, dropped);
-            8
+            refusals::DEAD_CLAUSE
         }
         Proposal::Refused(n) => n,
     }

@@ -12,7 +12,7 @@ use Rattle.proposal.proofs.Answers.{proposal-is, synced-store}
 use Rattle.proposal.specs.Propose.{answer, proposalOut, told, unsynced}
 use Rattle.rules.proofs.Demand.{reached-inv, synced-holds}
 use Rattle.rules.specs.Invariant.{Holds}
-use Rattle.rules.specs.Walk.{Environment, mode, walk}
+use Rattle.rules.specs.Walk.{Environment, inMode, walk}
 use Rattle.store.specs.Limits.{names}
 use Rattle.evaluate.specs.View.{assigned}
 use Rattle.rules.specs.declared.Out.{Out}
@@ -32,7 +32,7 @@ unfolding proposalOut
 demand2 w r u = rw (reached-sound w r, u) (proposal-is w (reached-genuine w r .sound) (reached-holds w r u))
 
 -- two stores that have all but the mode in common have one environment, but for the mode
-env-but-mode : (w u : List ℕ) → SameButMode w u → envOf w ≡ mode (envOf u) ((envOf w) .standard)
+env-but-mode : (w u : List ℕ) → SameButMode w u → envOf w ≡ inMode (envOf u) ((envOf w) .standard)
 env-but-mode w u s =
     λ i.
     record {
@@ -56,19 +56,19 @@ told-same w u s (Choose b) d e = rw (s .parents (b .clause), s .ids (b .clause))
 
 -- so they have one proposal where their walks answer alike
 pub one-proposal : (w u : List ℕ) → ReachedWords w → ReachedWords u → unsynced w ≡ false → unsynced u ≡ false → SameButMode w u →
-    walk (mode (envOf u) ((envOf w) .standard)) (assigned u) ≡ walk (envOf u) (assigned u) → undropped (proposalOut w) ≡ undropped (proposalOut u)
+    walk (inMode (envOf u) ((envOf w) .standard)) (assigned u) ≡ walk (envOf u) (assigned u) → undropped (proposalOut w) ≡ undropped (proposalOut u)
 one-proposal w u r q x y s e =
     rw (demand2 w r x, demand2 u q y)
     (told-same w u (s .clauses-same) (walk (envOf w) (assigned w)) (answer w .drops) (answer u .drops)
     ∙ ap (λ (o : Out). undropped (told u o (answer u .drops)))
     (ap (λ (f : Environment). walk f (assigned w)) (env-but-mode w u s)
-    ∙ ap (λ (a : ℕ → Value). walk (mode (envOf u) ((envOf w) .standard)) a) (fun-ext (s .assignments-same))
+    ∙ ap (λ (a : ℕ → Value). walk (inMode (envOf u) ((envOf w) .standard)) a) (fun-ext (s .assignments-same))
     ∙ e))
 
 -- DEMAND 3: the proposal of a reached and synced store depends on the six things alone, and on no history
 pub demand3 : (w u : List ℕ) → ReachedWords w → ReachedWords u → unsynced w ≡ false → unsynced u ≡ false → SameSix w u → undropped (proposalOut w) ≡ undropped (proposalOut u)
 demand3 w u r q x y s =
-    one-proposal w u r q x y (s .but-mode) (ap (λ (m : ℕ). walk (mode (envOf u) (eqb m 1)) (assigned u)) (s .mode-same))
+    one-proposal w u r q x y (s .but-mode) (ap (λ (m : ℕ). walk (inMode (envOf u) (eqb m 1)) (assigned u)) (s .mode-same))
 
 -- THE BUTTON COMES BACK: she sees a proposal, then accepts, tries, asks and takes back, in any calls, refused ones included; once the six
 -- things are as they were and the store is synced, the proposal that she left is there again

@@ -29,7 +29,7 @@ use Rattle.rules.proofs.Nothing.{nothing-iff}
 use Rattle.rules.proofs.Sweeps.{routes-same}
 use Rattle.rules.specs.Queue.{Queue}
 use Rattle.rules.specs.Sync.{routes}
-use Rattle.rules.specs.Walk.{look, member, mode, named, ranks, walk}
+use Rattle.rules.specs.Walk.{look, member, inMode, named, ranks, walk}
 use Rattle.store.proofs.AreaLaws.{at-past}
 use Rattle.store.proofs.Choice.{lt-or, true-false, or-cases}
 use Rattle.store.proofs.Soundness.{sound-facts}
@@ -165,11 +165,11 @@ module _ (w u : List ℕ) (r : ReachedWords w) (q : ReachedWords u) (same : Same
       ⊎-elim (λ (l : T (eqb n ((listAt u slot) .name))). name-below u slot n (reached-genuine u q .sound) (eqb→eq n ((listAt u slot) .name) l))
       (in-range n (slot + 1) count) (or-cases (eqb n ((listAt u slot) .name)) (named n (from (listAt u) (slot + 1) count)) t)
 
-  any-mode : (b c : Bool) → walk (mode (envOf u) b) (assigned u) ≡ walk (mode (envOf u) c) (assigned u)
+  any-mode : (b c : Bool) → walk (inMode (envOf u) b) (assigned u) ≡ walk (inMode (envOf u) c) (assigned u)
   unfolding listsAt
   any-mode b c = go b c (modes (envOf u) (assigned u) alive cold-zero (λ k n l t. in-range n _ _ t))
     where
-      go : (b c : Bool) → walk (mode (envOf u) true) (assigned u) ≡ walk (mode (envOf u) false) (assigned u) → walk (mode (envOf u) b) (assigned u) ≡ walk (mode (envOf u) c) (assigned u)
+      go : (b c : Bool) → walk (inMode (envOf u) true) (assigned u) ≡ walk (inMode (envOf u) false) (assigned u) → walk (inMode (envOf u) b) (assigned u) ≡ walk (inMode (envOf u) c) (assigned u)
       go true true e = refl
       go true false e = e
       go false true e = sym e

@@ -12,6 +12,7 @@ use Rattle.rules.specs.Queue.{Answer, queuedFrom, queuedOn}
 use Rattle.rules.specs.Walk.{ranks, ranksFrom}
 use Rattle.store.specs.Area.{at}
 use Rattle.store.specs.Layout.{clauseCount, clauseIds, clauseParents, mirrorLength, syncFloor, trailLength}
+use Rattle.store.specs.Refusals.{badStore, deadClause, notSynced}
 use Rattle.store.specs.Shape.{soundShape}
 use Rattle.rules.specs.declared.Best.{Best}
 use Rattle.rules.specs.declared.Out.{Out}
@@ -69,7 +70,7 @@ unsynced w = ltb (at syncFloor 0 w) (at mirrorLength 0 w) || ltb (at mirrorLengt
 
 -- on any words; 7: "a proposal is asked of an unsynced store"
 unfoldable pub proposalOut : List ℕ → Proposal
-proposalOut w = cond (soundShape w) (cond (unsynced w) (Refused 7) (proposalIn w)) (Refused 1)
+proposalOut w = cond (soundShape w) (cond (unsynced w) (Refused notSynced) (proposalIn w)) (Refused badStore)
 
 -- the words left, on any words
 unfoldable pub proposalStore : List ℕ → List ℕ
@@ -79,7 +80,7 @@ proposalStore w = cond (soundShape w) (cond (unsynced w) w (proposalInStore w)) 
 abbrev pub proposalNumber : Proposal → ℕ
 proposalNumber (Chosen candidate parent clause activity count dropped) = 0
 proposalNumber (NoneOpen dropped) = 0
-proposalNumber (DeadAt clause dropped) = 8
+proposalNumber (DeadAt clause dropped) = deadClause
 proposalNumber (Refused n) = n
 
 -- 1 if a candidate was found, the candidate, its parent and clause id, the activity's bits, the count, the clauses dropped

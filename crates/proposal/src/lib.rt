@@ -5,6 +5,7 @@ ghost use lib.ListN.{length};
 ghost use Rattle.store.specs.Layout.{words};
 ghost use Rattle.proposal.specs.Propose.{unsynced, proposalOut, proposalStore};
 use store::read;
+use store::refusals;
 use store::shape;
 
 pub mod decide_queue;
@@ -48,9 +49,9 @@ pub fn propose(s: &mut [u32]) -> Proposal
 {
     if shape::sound(s) {
         if is_unsynced(s) {
-            return Proposal::Refused(7);
+            return Proposal::Refused(refusals::UNSYNCED);
         }
         return decide_queue::propose(s);
     }
-    Proposal::Refused(1)
+    Proposal::Refused(refusals::BAD_STORE)
 }

@@ -7,8 +7,10 @@ use lib.Dec.{leb, ltb, eqb}
 use lib.ListN.{length, take, drop}
 use Rattle.requirement.specs.Tables.{keyAt, firstSlot, setCount}
 use Rattle.store.specs.Area.{at, put, putRun}
+use Rattle.store.specs.Codes.{singleKind, unionKind}
 use Rattle.store.specs.Layout.{setNames, unionSizes, tablesLoaded, listStarts, listLengths, singleCells, unionCells, candidates, words}
 use Rattle.store.specs.Limits.{versionSets, unions, cellRoom, requirements, lists, lastVariable}
+use Rattle.store.specs.Refusals.{badId, badStore, loadedTwice, malformed, noRoom}
 use Rattle.store.specs.Shape.{every, upTo, unionsFrom, soundShape}
 use Rattle.requirement.specs.declared.Loaded.{Loaded}
 use Rattle.requirement.specs.declared.Loaded.the-variants.{Done, Refused}
@@ -31,9 +33,9 @@ cut (n ∷ ns) cells = take n cells ∷ cut ns (drop n cells)
 -- a single's version set that is loaded, a union that is loaded; no other kind is known
 unfoldable pub known : List ℕ → ℕ → ℕ → Bool
 known w kind id =
-    cond (eqb kind 0)
+    cond (eqb kind singleKind)
     (ltb id versionSets && not (eqb (at setNames id w) 0))
-    (eqb kind 1 && ltb id unions && not (eqb (at unionSizes id w) 0))
+    (eqb kind unionKind && ltb id unions && not (eqb (at unionSizes id w) 0))
 
 -- not 2: "an id or a cell range is out of range, or names something not loaded; a value, sign, mode or kind number is unknown"
 unfoldable pub fitting : List ℕ → ℕ → ℕ → List ℕ → List ℕ → Bool
@@ -42,10 +44,10 @@ fitting w kind id lengths cells = known w kind id && adds lengths (length cells)
 -- on a store of sound shape: the tests 2, 11 ("a requirement whose number of lists differs from its number of version sets"), 12, 3
 unfoldable pub loadIn : List ℕ → ℕ → ℕ → List ℕ → List ℕ → Loaded
 loadIn w kind id lengths cells =
-    cond (not (fitting w kind id lengths cells)) (Refused 2)
-    (cond (not (eqb (length lengths) (setCount w (keyAt kind id)))) (Refused 11)
-    (cond (not (eqb (at tablesLoaded (keyAt kind id) w) 0)) (Refused 12)
-    (cond (ltb cellRoom (at singleCells 0 w + at unionCells 0 w + length cells)) (Refused 3)
+    cond (not (fitting w kind id lengths cells)) (Refused badId)
+    (cond (not (eqb (length lengths) (setCount w (keyAt kind id)))) (Refused malformed)
+    (cond (not (eqb (at tablesLoaded (keyAt kind id) w) 0)) (Refused loadedTwice)
+    (cond (ltb cellRoom (at singleCells 0 w + at unionCells 0 w + length cells)) (Refused noRoom)
     Done)))
 
 -- what "done" says of the lent lists: the lists fit their places, the cells theirs
@@ -77,7 +79,7 @@ loadedUnion w u lengths cells =
 
 -- the words with a table more, of either kind
 unfoldable pub loaded : List ℕ → ℕ → ℕ → List ℕ → List ℕ → List ℕ
-loaded w kind id lengths cells = cond (eqb kind 0) (loadedSingle w id lengths cells) (loadedUnion w id lengths cells)
+loaded w kind id lengths cells = cond (eqb kind singleKind) (loadedSingle w id lengths cells) (loadedUnion w id lengths cells)
 
 -- only "done" changes a word
 abbrev pub loadLeft : Loaded → List ℕ → ℕ → ℕ → List ℕ → List ℕ → List ℕ
@@ -90,7 +92,7 @@ loadInStore w kind id lengths cells = loadLeft (loadIn w kind id lengths cells) 
 
 -- on any words
 unfoldable pub loadOut : List ℕ → ℕ → ℕ → List ℕ → List ℕ → Loaded
-loadOut w kind id lengths cells = cond (soundShape w) (loadIn w kind id lengths cells) (Refused 1)
+loadOut w kind id lengths cells = cond (soundShape w) (loadIn w kind id lengths cells) (Refused badStore)
 
 -- "Each refusal but 8 changes no word of the store"
 unfoldable pub loadStore : List ℕ → ℕ → ℕ → List ℕ → List ℕ → List ℕ

@@ -5,6 +5,7 @@ use Prim.Native.Nat.{ℕ, zero, suc, _+_, _-_, _*_}
 use lib.Dec.{ltb, eqb}
 use lib.ListN.{take, drop, set}
 use Rattle.store.specs.Area.{area, at}
+use Rattle.store.specs.Codes.{singleKind}
 use Rattle.store.specs.Layout.{setNames, unionSizes, unionSets, tablesLoaded, listStarts, listLengths, candidates}
 use Rattle.store.specs.Limits.{versionSets, unionRoom}
 use Rattle.requirement.specs.declared.Requirement.{Requirement}
@@ -17,7 +18,7 @@ keyOf (Union u) = versionSets + u
 
 -- the requirement of two numbers: kind 0 is a single, 1 a union
 unfoldable pub requirementOf : ℕ → ℕ → Requirement
-requirementOf kind id = cond (eqb kind 0) (Single id) (Union id)
+requirementOf kind id = cond (eqb kind singleKind) (Single id) (Union id)
 
 -- the key of two numbers
 abbrev pub keyAt : ℕ → ℕ → ℕ

@@ -17,9 +17,11 @@ use crate::Copied;
 use crate::Loaded;
 use crate::Requirement;
 use store::areas;
+use store::codes;
 use store::lent;
 use store::limits;
 use store::read;
+use store::refusals;
 use store::wide;
 use store::write;
 
@@ -45,13 +47,13 @@ fn is_known(s: &[u32], kind: u32, id: u32) -> bool
     requires { ⌜ words ≤ length (now s) ⌝ }
     ensures { λ r. ⌜ r ≡ known (now (s .entry)) kind id ⌝ }
 {
-    if kind == 0 {
+    if kind == codes::SINGLE {
         if id < limits::VERSION_SETS as u32 {
             return read::set_name(s, wide(id)) != 0;
         }
         return false;
     }
-    if kind == 1 {
+    if kind == codes::UNION {
         if id < limits::UNIONS as u32 {
             return read::union_size(s, wide(id)) != 0;
         }
@@ -63,7 +65,7 @@ fn is_known(s: &[u32], kind: u32, id: u32) -> bool
 pub fn requirement_of(kind: u32, id: u32) -> Requirement
     ensures { λ r. ⌜ r ≡ requirementOf kind id ⌝ }
 {
-    if kind == 0 {
+    if kind == codes::SINGLE {
         return Requirement::Single(id);
     }
     Requirement::Union(id)
@@ -148,18 +150,18 @@ fn load_case(s: &[u32], kind: u32, id: u32, lengths: &[u32], cells: &[u32]) -> L
     ensures { λ r. ⌜ r ≡ loadIn (now (s .entry)) kind id (now (lengths .entry)) (now (cells .entry)) ⌝ }
 {
     if is_fitting(s, kind, id, lengths, cells) {} else {
-        return Loaded::Refused(2);
+        return Loaded::Refused(refusals::BAD_ID);
     }
     let key = key_of(requirement_of(kind, id));
     if lengths.len() != set_count(s, key) {
-        return Loaded::Refused(11);
+        return Loaded::Refused(refusals::MALFORMED);
     }
     if read::table_loaded(s, key) != 0 {
-        return Loaded::Refused(12);
+        return Loaded::Refused(refusals::LOADED_TWICE);
     }
     let used = wide(read::single_cells(s)) + wide(read::union_cells(s));
     if limits::CELL_ROOM < used + cells.len() {
-        return Loaded::Refused(3);
+        return Loaded::Refused(refusals::NO_ROOM);
     }
     Loaded::Done
 }
@@ -216,7 +218,7 @@ fn load(s: &mut [u32], kind: u32, id: u32, lengths: &[u32], cells: &[u32])
     requires { ⌜ Roomy (now s) (keyAt kind id) (now lengths) (now cells) ⌝ }
     ensures { λ _. ⌜ now (s .exit) ≡ loaded (now (s .entry)) kind id (now (lengths .entry)) (now (cells .entry)) ⌝ }
 {
-    if kind == 0 {
+    if kind == codes::SINGLE {
         load_single(s, id, lengths, cells);
         return;
     }
@@ -304,13 +306,13 @@ pub fn is_tabled(s: &[u32], kind: u32, id: u32) -> bool
     requires { ⌜ words ≤ length (now s) ⌝ }
     ensures { λ r. ⌜ r ≡ tabled (now (s .entry)) kind id ⌝ }
 {
-    if kind == 0 {
+    if kind == codes::SINGLE {
         if id < limits::VERSION_SETS as u32 {
             return read::table_loaded(s, wide(id)) != 0;
         }
         return false;
     }
-    if kind == 1 {
+    if kind == codes::UNION {
         if id < limits::UNIONS as u32 {
             return read::table_loaded(s, limits::VERSION_SETS + wide(id)) != 0;
         }
@@ -379,16 +381,16 @@ fn copy_case(s: &[u32], kind: u32, id: u32, n: usize, m: usize) -> Copied
     ensures { λ r. ⌜ r ≡ copyIn (now (s .entry)) kind id n m ⌝ }
 {
     if is_tabled(s, kind, id) {} else {
-        return Copied::Refused(2);
+        return Copied::Refused(refusals::BAD_ID);
     }
     let r = requirement_of(kind, id);
     let count = list_count(s, key_of(r));
     if n < count {
-        return Copied::Refused(3);
+        return Copied::Refused(refusals::NO_ROOM);
     }
     let sum = cell_count(s, r, count);
     if m < sum {
-        return Copied::Refused(3);
+        return Copied::Refused(refusals::NO_ROOM);
     }
     Copied::Done {
         lists: count as u32,

@@ -2,6 +2,7 @@
 ghost use mathlib.Core.Path.{_≡_};
 ghost use Rattle.requirement.specs.Copy.{copyOut, copyLengths, copyCells};
 ghost use Rattle.requirement.specs.Load.{loadOut, loadStore};
+use store::refusals;
 use store::shape;
 
 pub mod candidates;
@@ -30,7 +31,7 @@ pub fn load_candidates(s: &mut [u32], kind: u32, id: u32, lengths: &[u32], cells
     if shape::sound(s) {
         return candidates::load_candidates(s, kind, id, lengths, cells);
     }
-    Loaded::Refused(1)
+    Loaded::Refused(refusals::BAD_STORE)
 }
 
 // Copies the candidate lists of a requirement out: their lengths and their cells, one after the other.
@@ -46,5 +47,5 @@ pub fn copy_candidates(
     if shape::sound(s) {
         return candidates::copy_candidates(s, kind, id, lengths, cells);
     }
-    Copied::Refused(1)
+    Copied::Refused(refusals::BAD_STORE)
 }

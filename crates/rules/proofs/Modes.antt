@@ -7,7 +7,7 @@ use Prim.Native.Nat.{ℕ, zero, suc, _≤_, _<_, max}
 use native.Mathlib.Omega.{arith}
 use native.Mathlib.Decide.{decLe}
 use lib.Dec.{T, eqb, eqb→eq, eqb-refl, ltb, ltb→lt}
-use Rattle.rules.specs.Walk.{ranks, Value, CandidateList, Found, At, Nowhere, firstTrue, firstUndecided, countUndecided, flattened, frontier, orElse, orNext, State, Satisfied, Frontier, Dead, evaluate, Seen, Shut, Open, Gone, seenAs, Environment, active, anyHot, isHot, largest, look, Best, best, stops, passedOver, better, Choose, walkFrom, walkOn, walk, mode, named}
+use Rattle.rules.specs.Walk.{ranks, Value, CandidateList, Found, At, Nowhere, firstTrue, firstUndecided, countUndecided, flattened, frontier, orElse, orNext, State, Satisfied, Frontier, Dead, evaluate, Seen, Shut, Open, Gone, seenAs, Environment, active, anyHot, isHot, largest, look, Best, best, stops, passedOver, better, Choose, walkFrom, walkOn, walk, inMode, named}
 use Rattle.rules.proofs.Cases.{by-seen, by-test}
 use Rattle.store.proofs.Choice.{or-inl, or-inr, or-cases, or-right}
 use Rattle.rules.proofs.Ranks.{Below, below-head, below-tail, ranks-below}
@@ -70,7 +70,7 @@ no-better b d h = go (ltb (b .activity) (d .activity)) (ltb (d .count) (b .count
 module _ (e : Environment) (a : ℕ → Value) (alive : (k : ℕ) → k < e .size → look e a k ≡ Gone → ⊥)
     (cold : (n : ℕ) → e .hot n ≡ false → e .activity n ≡ 0)
     (range : (k n : ℕ) → k < e .size → T (named n (e .lists (e .requirement k))) → n < e .names) where
-  look-mode : (b : Bool) (k : ℕ) → look (mode e b) a k ≡ look e a k
+  look-mode : (b : Bool) (k : ℕ) → look (inMode e b) a k ≡ look e a k
   unfolding look
   look-mode b k = refl
 
@@ -81,44 +81,44 @@ module _ (e : Environment) (a : ℕ → Value) (alive : (k : ℕ) → k < e .siz
   cold-zero k x n m c h = cold n (cold-name (e .hot) (e .lists (e .requirement k)) n c (look-name e a k x n m h))
 
   -- a best of the largest activity stays, in the mode that goes on
-  stays : (b : Best) (ks : List ℕ) → Below (e .size) ks → b .activity ≡ largest (e .activity) (e .names) → walkOn (mode e false) a b ks ≡ Choose b
+  stays : (b : Best) (ks : List ℕ) → Below (e .size) ks → b .activity ≡ largest (e .activity) (e .names) → walkOn (inMode e false) a b ks ≡ Choose b
   unfolding walkOn
   stays b [] all h = refl
   stays b (k ∷ ks) all h =
       let here : k < e .size = below-head (e .size) k ks all in
       let ih = stays b ks (below-tail (e .size) k ks all) h in
-      by-test (λ y. y ≡ Choose b) (stops (mode e false) b) _ _ (λ s. refl)
+      by-test (λ y. y ≡ Choose b) (stops (inMode e false) b) _ _ (λ s. refl)
       (λ s.
-      by-test (λ y. y ≡ Choose b) (passedOver (mode e false) b k) _ _ (λ p. ih)
+      by-test (λ y. y ≡ Choose b) (passedOver (inMode e false) b k) _ _ (λ p. ih)
       (λ p.
-      by-seen (λ y. y ≡ Choose b) (look (mode e false) a k) _ _ _ (λ q. ih)
+      by-seen (λ y. y ≡ Choose b) (look (inMode e false) a k) _ _ _ (λ q. ih)
       (λ x n m q. rw (no-better b (best e k x n m) (omega (arith, at-most-top k x n m here (sym (look-mode false k) ∙ q)))) ih)
       (λ q. absurd (alive k here (sym (look-mode false k) ∙ q)))))
 
   module _ (b : Best) (k : ℕ) (ks : List ℕ) (all : Below (e .size) (k ∷ ks))
-      (ih : (b : Best) → walkOn (mode e true) a b ks ≡ walkOn (mode e false) a b ks) where
+      (ih : (b : Best) → walkOn (inMode e true) a b ks ≡ walkOn (inMode e false) a b ks) where
     abbrev Same : Type 0
-    Same = walkOn (mode e true) a b (k ∷ ks) ≡ walkOn (mode e false) a b (k ∷ ks)
+    Same = walkOn (inMode e true) a b (k ∷ ks) ≡ walkOn (inMode e false) a b (k ∷ ks)
 
-    cold-seen : (v : Seen) → look e a k ≡ v → isHot e k ≡ false → stops (mode e true) b ≡ false → stops (mode e false) b ≡ false → passedOver (mode e true) b k ≡ true → passedOver (mode e false) b k ≡ false → Same
+    cold-seen : (v : Seen) → look e a k ≡ v → isHot e k ≡ false → stops (inMode e true) b ≡ false → stops (inMode e false) b ≡ false → passedOver (inMode e true) b k ≡ true → passedOver (inMode e false) b k ≡ false → Same
     unfolding walkOn
     cold-seen Shut q c s t p r = rw (s, t, p, r, look-mode false k, q, walkOn) (ih b)
     cold-seen (Open x n m) q c s t p r =
         rw (s, t, p, r, look-mode false k, q, no-better b (best e k x n m) (omega (arith, cold-zero k x n m c q)), walkOn) (ih b)
     cold-seen Gone q c s t p r = absurd (alive k (below-head (e .size) k ks all) q)
 
-    hot-seen : (v : Seen) → look e a k ≡ v → stops (mode e true) b ≡ false → stops (mode e false) b ≡ false → passedOver (mode e true) b k ≡ false → passedOver (mode e false) b k ≡ false → Same
+    hot-seen : (v : Seen) → look e a k ≡ v → stops (inMode e true) b ≡ false → stops (inMode e false) b ≡ false → passedOver (inMode e true) b k ≡ false → passedOver (inMode e false) b k ≡ false → Same
     unfolding walkOn
     hot-seen Shut q s t p r = rw (s, t, p, r, look-mode false k, look-mode true k, q, walkOn) (ih b)
     hot-seen (Open x n m) q s t p r =
         rw (s, t, p, r, look-mode false k, look-mode true k, q, walkOn) (ih (better b (best e k x n m)))
     hot-seen Gone q s t p r = rw (s, t, p, r, look-mode false k, look-mode true k, q, walkOn)
 
-    on-shield : (h s : Bool) → isHot e k ≡ h → eqb (e .parent (b .clause)) 0 && not (eqb (e .parent k) 0) ≡ s → stops (mode e true) b ≡ false → stops (mode e false) b ≡ false → Same
+    on-shield : (h s : Bool) → isHot e k ≡ h → eqb (e .parent (b .clause)) 0 && not (eqb (e .parent k) 0) ≡ s → stops (inMode e true) b ≡ false → stops (inMode e false) b ≡ false → Same
     unfolding walkOn
     on-shield h true p q t u =
-        let i : passedOver (mode e true) b k ≡ true = or-right (not (isHot e k)) _ q in
-        let j : passedOver (mode e false) b k ≡ true = rw q in
+        let i : passedOver (inMode e true) b k ≡ true = or-right (not (isHot e k)) _ q in
+        let j : passedOver (inMode e false) b k ≡ true = rw q in
         rw (t, u, i, j, walkOn) (ih b)
     on-shield true false p q t u = hot-seen (look e a k) refl t u (rw (p, q)) (rw q)
     on-shield false false p q t u = cold-seen (look e a k) refl p t u (rw p) (rw q)
@@ -126,32 +126,32 @@ module _ (e : Environment) (a : ℕ → Value) (alive : (k : ℕ) → k < e .siz
     on-tests : (c t : Bool) → eqb (b .count) 1 ≡ c → eqb (b .activity) (largest (e .activity) (e .names)) ≡ t → Same
     unfolding walkOn
     on-tests true t p q =
-        let i : stops (mode e true) b ≡ true = rw p in
-        let j : stops (mode e false) b ≡ true = rw p in
+        let i : stops (inMode e true) b ≡ true = rw p in
+        let j : stops (inMode e false) b ≡ true = rw p in
         rw (i, j, walkOn)
     on-tests false true p q =
-        let i : stops (mode e true) b ≡ true = rw (p, q) in
+        let i : stops (inMode e true) b ≡ true = rw (p, q) in
         rw (i, walkOn) (sym (stays b (k ∷ ks) all (eqb→eq (b .activity) (largest (e .activity) (e .names)) (rw q tt))))
     on-tests false false p q =
         on-shield (isHot e k) (eqb (e .parent (b .clause)) 0 && not (eqb (e .parent k) 0)) refl refl (rw (p, q)) (rw p)
 
-  modes-on : (b : Best) (ks : List ℕ) → Below (e .size) ks → walkOn (mode e true) a b ks ≡ walkOn (mode e false) a b ks
+  modes-on : (b : Best) (ks : List ℕ) → Below (e .size) ks → walkOn (inMode e true) a b ks ≡ walkOn (inMode e false) a b ks
   unfolding walkOn
   modes-on b [] all = refl
   modes-on b (k ∷ ks) all =
       on-tests b k ks all (λ b′. modes-on b′ ks (below-tail (e .size) k ks all)) (eqb (b .count) 1)
       (eqb (b .activity) (largest (e .activity) (e .names))) refl refl
 
-  modes-from : (ks : List ℕ) → Below (e .size) ks → walkFrom (mode e true) a ks ≡ walkFrom (mode e false) a ks
+  modes-from : (ks : List ℕ) → Below (e .size) ks → walkFrom (inMode e true) a ks ≡ walkFrom (inMode e false) a ks
   unfolding walkFrom
   modes-from [] all = refl
   modes-from (k ∷ ks) all = go (look e a k) refl (modes-from ks (below-tail (e .size) k ks all))
     where
-      go : (v : Seen) → look e a k ≡ v → walkFrom (mode e true) a ks ≡ walkFrom (mode e false) a ks → walkFrom (mode e true) a (k ∷ ks) ≡ walkFrom (mode e false) a (k ∷ ks)
+      go : (v : Seen) → look e a k ≡ v → walkFrom (inMode e true) a ks ≡ walkFrom (inMode e false) a ks → walkFrom (inMode e true) a (k ∷ ks) ≡ walkFrom (inMode e false) a (k ∷ ks)
       go Shut q ih = rw (look-mode true k, look-mode false k, q, walkFrom) ih
       go (Open x n m) q ih = rw (look-mode true k, look-mode false k, q, walkFrom) (modes-on (best e k x n m) ks (below-tail (e .size) k ks all))
       go Gone q ih = rw (look-mode true k, look-mode false k, q, walkFrom)
 
   -- "both modes give the same proposal, drop count aside": the walk has no drops
-  pub modes : walk (mode e true) a ≡ walk (mode e false) a
+  pub modes : walk (inMode e true) a ≡ walk (inMode e false) a
   modes = modes-from (ranks (e .size)) (ranks-below (e .size))

@@ -213,8 +213,8 @@ refitted e lists activity hot standard =
     }
 
 -- the same in a given mode
-abbrev pub mode : Environment → Bool → Environment
-mode e b = refitted e (e .lists) (e .activity) (e .hot) b
+abbrev pub inMode : Environment → Bool → Environment
+inMode e b = refitted e (e .lists) (e .activity) (e .hot) b
 
 -- a name of the lists
 unfoldable pub named : ℕ → List CandidateList → Bool

@@ -5,9 +5,11 @@ use Prim.Native.Nat.{ℕ}
 use lib.Dec.{leb, eqb}
 use lib.Ieee.{Float}
 use Rattle.store.specs.Area.{at, put}
+use Rattle.store.specs.Codes.{standardMode}
 use Rattle.store.specs.Layout.{mode, activities, hotNames}
 use Rattle.store.specs.Limits.{names}
 use Rattle.store.specs.Numbers.{allFrom}
+use Rattle.store.specs.Refusals.{badActivity, badId, badStore, coldActivity}
 use Rattle.store.specs.Shape.{soundShape}
 use Rattle.settings.specs.Activity.{admitted}
 use Rattle.settings.specs.declared.activity.Admitted.{Admitted}
@@ -21,7 +23,7 @@ use Rattle.settings.specs.declared.Name.the-variants.{Is as NameIs, Refu
 
 -- making a name hot: test 2 alone
 unfoldable pub hotIn : List ℕ → ℕ → Tuned
-hotIn w name = cond (leb names name) (Refused 2) Done
+hotIn w name = cond (leb names name) (Refused badId) Done
 
 -- "hot is for good": no call but this and making a fresh store writes the mark
 unfoldable pub hotInStore : List ℕ → ℕ → List ℕ
@@ -37,7 +39,7 @@ quiet w name bits n = cond (eqb (at hotNames n w) 0) (eqb (activityWith w name b
 
 -- a name in range is given an activity in range: 10 is judged on the store as it would be left
 unfoldable pub activityOn : List ℕ → ℕ → ℕ → Tuned
-activityOn w name bits = cond (eqb (at mode 0 w) 1) (cond (allFrom (quiet w name bits) 0 names) Done (Refused 10)) Done
+activityOn w name bits = cond (eqb (at mode 0 w) standardMode) (cond (allFrom (quiet w name bits) 0 names) Done (Refused coldActivity)) Done
 
 -- "Each refusal but 8 changes no word of the store"
 abbrev pub activityLeft : Tuned → List ℕ → ℕ → ℕ → List ℕ
@@ -51,7 +53,7 @@ activityOnStore w name bits = activityLeft (activityOn w name bits) w name bits
 -- what was admitted is judged by 10, the rest is 9
 abbrev pub activityFor : Admitted → List ℕ → ℕ → Tuned
 activityFor (Bits bits) w name = activityOn w name bits
-activityFor Bad w name = Refused 9
+activityFor Bad w name = Refused badActivity
 
 -- the words that it leaves
 abbrev pub activityForStore : Admitted → List ℕ → ℕ → List ℕ
@@ -60,7 +62,7 @@ activityForStore Bad w name = w
 
 -- a name given an activity, on a store of sound shape: test 2 first
 unfoldable pub activityIn : List ℕ → ℕ → Float → Tuned
-activityIn w name x = cond (leb names name) (Refused 2) (activityFor (admitted x) w name)
+activityIn w name x = cond (leb names name) (Refused badId) (activityFor (admitted x) w name)
 
 -- the words that it leaves
 unfoldable pub activityInStore : List ℕ → ℕ → Float → List ℕ
@@ -68,7 +70,7 @@ activityInStore w name x = cond (leb names name) w (activityForStore (admitted x
 
 -- the mode: 1 standard, 0 not; tests 2, 10
 unfoldable pub modeIn : List ℕ → ℕ → Tuned
-modeIn w m = cond (leb 2 m) (Refused 2) (cond (eqb m 1) (cond (allFrom (quiet w names 0) 0 names) Done (Refused 10)) Done)
+modeIn w m = cond (leb 2 m) (Refused badId) (cond (eqb m standardMode) (cond (allFrom (quiet w names 0) 0 names) Done (Refused coldActivity)) Done)
 
 -- "Each refusal but 8 changes no word of the store"
 abbrev pub modeLeft : Tuned → List ℕ → ℕ → List ℕ
@@ -81,11 +83,11 @@ modeInStore w m = modeLeft (modeIn w m) w m
 
 -- what a name is, on a store of sound shape: test 2 first
 unfoldable pub nameIn : List ℕ → ℕ → Name
-nameIn w name = cond (leb names name) (NameRefused 2) (NameIs (at activities name w) (at hotNames name w))
+nameIn w name = cond (leb names name) (NameRefused badId) (NameIs (at activities name w) (at hotNames name w))
 
 -- making a name hot, on any words
 unfoldable pub hotOut : List ℕ → ℕ → Tuned
-hotOut w name = cond (soundShape w) (hotIn w name) (Refused 1)
+hotOut w name = cond (soundShape w) (hotIn w name) (Refused badStore)
 
 -- the words that it leaves
 unfoldable pub hotStore : List ℕ → ℕ → List ℕ
@@ -93,7 +95,7 @@ hotStore w name = cond (soundShape w) (hotInStore w name) w
 
 -- giving a name an activity, on any words
 unfoldable pub activityOut : List ℕ → ℕ → Float → Tuned
-activityOut w name x = cond (soundShape w) (activityIn w name x) (Refused 1)
+activityOut w name x = cond (soundShape w) (activityIn w name x) (Refused badStore)
 
 -- the words that it leaves
 unfoldable pub activityStore : List ℕ → ℕ → Float → List ℕ
@@ -101,7 +103,7 @@ activityStore w name x = cond (soundShape w) (activityInStore w name x) w
 
 -- setting the mode, on any words
 unfoldable pub modeOut : List ℕ → ℕ → Tuned
-modeOut w m = cond (soundShape w) (modeIn w m) (Refused 1)
+modeOut w m = cond (soundShape w) (modeIn w m) (Refused badStore)
 
 -- the words that it leaves
 unfoldable pub modeStore : List ℕ → ℕ → List ℕ
@@ -109,11 +111,11 @@ modeStore w m = cond (soundShape w) (modeInStore w m) w
 
 -- the mode, on any words
 unfoldable pub modeNow : List ℕ → Mode
-modeNow w = cond (soundShape w) (ModeIs (at mode 0 w)) (ModeRefused 1)
+modeNow w = cond (soundShape w) (ModeIs (at mode 0 w)) (ModeRefused badStore)
 
 -- a name's activity and whether it is hot, on any words
 unfoldable pub nameNow : List ℕ → ℕ → Name
-nameNow w name = cond (soundShape w) (nameIn w name) (NameRefused 1)
+nameNow w name = cond (soundShape w) (nameIn w name) (NameRefused badStore)
 
 -- the answer's number in document 01, of a call that changes a setting
 abbrev pub tunedNumber : Tuned → ℕ

@@ -1,6 +1,7 @@
 // The settings of a store: each name's activity and whether it is hot, and the mode.
 ghost use mathlib.Core.Path.{_≡_};
 ghost use Rattle.settings.specs.Settings.{hotOut, hotStore, activityOut, activityStore, modeOut, modeStore, modeNow, nameNow};
+use store::refusals;
 use store::shape;
 
 pub mod activity;
@@ -31,7 +32,7 @@ pub fn mark_hot(s: &mut [u32], name: u32) -> Tuned
     if shape::sound(s) {
         return tuning::mark_hot(s, name);
     }
-    Tuned::Refused(1)
+    Tuned::Refused(refusals::BAD_STORE)
 }
 
 // Gives a name an activity.
@@ -41,7 +42,7 @@ pub fn set_activity(s: &mut [u32], name: u32, activity: f32) -> Tuned
     if shape::sound(s) {
         return tuning::set_activity(s, name, activity);
     }
-    Tuned::Refused(1)
+    Tuned::Refused(refusals::BAD_STORE)
 }
 
 // Sets the mode: 1 standard, 0 not.
@@ -51,7 +52,7 @@ pub fn set_mode(s: &mut [u32], mode: u32) -> Tuned
     if shape::sound(s) {
         return tuning::set_mode(s, mode);
     }
-    Tuned::Refused(1)
+    Tuned::Refused(refusals::BAD_STORE)
 }
 
 // The mode.
@@ -61,7 +62,7 @@ pub fn mode_of(s: &[u32]) -> Mode
     if shape::sound(s) {
         return Mode::Is(store::read::mode(s));
     }
-    Mode::Refused(1)
+    Mode::Refused(refusals::BAD_STORE)
 }
 
 // A name's activity and whether it is hot.
@@ -71,5 +72,5 @@ pub fn name_of(s: &[u32], name: u32) -> Name
     if shape::sound(s) {
         return tuning::name_of(s, name);
     }
-    Name::Refused(1)
+    Name::Refused(refusals::BAD_STORE)
 }

@@ -11,8 +11,10 @@ use crate::Name;
 use crate::Tuned;
 use crate::activity;
 use crate::activity::Admitted;
+use store::codes;
 use store::limits;
 use store::read;
+use store::refusals;
 use store::wide;
 use store::write;
 
@@ -21,7 +23,7 @@ pub fn mark_hot(s: &mut [u32], name: u32) -> Tuned
     ensures { λ r. ⌜ (r ≡ hotIn (now (s .entry)) name) × (now (s .exit) ≡ hotInStore (now (s .entry)) name) ⌝ }
 {
     if limits::NAMES as u32 <= name {
-        return Tuned::Refused(2);
+        return Tuned::Refused(refusals::BAD_ID);
     }
     write::hot(s, wide(name), 1);
     Tuned::Done
@@ -69,11 +71,11 @@ fn activity_case(s: &[u32], name: u32, bits: u32) -> Tuned
     requires { ⌜ words ≤ length (now s) ⌝ }
     ensures { λ r. ⌜ r ≡ activityOn (now (s .entry)) name bits ⌝ }
 {
-    if read::mode(s) == 1 {
+    if read::mode(s) == codes::STANDARD {
         if all_quiet(s, wide(name), bits) {
             return Tuned::Done;
         }
-        return Tuned::Refused(10);
+        return Tuned::Refused(refusals::COLD_ACTIVITY);
     }
     Tuned::Done
 }
@@ -96,11 +98,11 @@ pub fn set_activity(s: &mut [u32], name: u32, activity: f32) -> Tuned
     ensures { λ r. ⌜ (r ≡ activityIn (now (s .entry)) name activity) × (now (s .exit) ≡ activityInStore (now (s .entry)) name activity) ⌝ }
 {
     if limits::NAMES as u32 <= name {
-        return Tuned::Refused(2);
+        return Tuned::Refused(refusals::BAD_ID);
     }
     match activity::admit(activity) {
         Admitted::Bits(bits) => store_activity(s, name, bits),
-        Admitted::Bad => Tuned::Refused(9),
+        Admitted::Bad => Tuned::Refused(refusals::BAD_ACTIVITY),
     }
 }
 
@@ -110,13 +112,13 @@ fn mode_case(s: &[u32], mode: u32) -> Tuned
     ensures { λ r. ⌜ r ≡ modeIn (now (s .entry)) mode ⌝ }
 {
     if 2 <= mode {
-        return Tuned::Refused(2);
+        return Tuned::Refused(refusals::BAD_ID);
     }
-    if mode == 1 {
+    if mode == codes::STANDARD {
         if all_quiet(s, limits::NAMES, 0) {
             return Tuned::Done;
         }
-        return Tuned::Refused(10);
+        return Tuned::Refused(refusals::COLD_ACTIVITY);
     }
     Tuned::Done
 }
@@ -138,7 +140,7 @@ pub fn name_of(s: &[u32], name: u32) -> Name
     ensures { λ r. ⌜ r ≡ nameIn (now (s .entry)) name ⌝ }
 {
     if limits::NAMES as u32 <= name {
-        return Name::Refused(2);
+        return Name::Refused(refusals::BAD_ID);
     }
     Name::Is {
         activity: read::activity(s, wide(name)),

@@ -27,6 +27,18 @@ andKind = 2
 abbrev pub orKind : ℕ
 orKind = 3
 
+-- what a call's requirement is: a version set
+abbrev pub singleKind : ℕ
+singleKind = 0
+
+-- a union of version sets
+abbrev pub unionKind : ℕ
+unionKind = 1
+
+-- the mode in which only hot clauses are compared with the best
+abbrev pub standardMode : ℕ
+standardMode = 1
+
 -- "Here the root is variable 0"
 abbrev pub root : ℕ
 root = 0
@@ -37,4 +49,4 @@ noCondition = lastWord
 
 -- all of them, as the source has them
 abbrev pub codesOf : List ℕ
-codesOf = dirty ∷ satisfied ∷ frontier ∷ leafKind ∷ andKind ∷ orKind ∷ root ∷ noCondition ∷ []
+codesOf = dirty ∷ satisfied ∷ frontier ∷ leafKind ∷ andKind ∷ orKind ∷ singleKind ∷ unionKind ∷ standardMode ∷ root ∷ noCondition ∷ []

@@ -6,6 +6,7 @@ use lib.Dec.{leb}
 use lib.ListN.{length}
 use Rattle.store.specs.Area.{Area, put, blank}
 use Rattle.store.specs.Layout.{words, mode}
+use Rattle.store.specs.Refusals.{badStore}
 use Rattle.store.specs.declared.Made.{Made}
 use Rattle.store.specs.declared.Made.the-variants.{Done, Refused}
 
@@ -19,7 +20,7 @@ freshWords w = put mode 0 1 (blank whole w)
 
 -- "refused only with 1 for a short slice"
 unfoldable pub freshOut : List ℕ → Made
-freshOut w = cond (leb words (length w)) Done (Refused 1)
+freshOut w = cond (leb words (length w)) Done (Refused badStore)
 
 -- the words left: a slice that is too short is kept
 unfoldable pub freshStore : List ℕ → List ℕ

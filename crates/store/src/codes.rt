@@ -16,13 +16,21 @@ pub const AND: u32 = 2;
 
 pub const OR: u32 = 3;
 
+// What a call's requirement is: a version set, or a union of them.
+pub const SINGLE: u32 = 0;
+
+pub const UNION: u32 = 1;
+
+// The mode in which only hot clauses are compared with the best.
+pub const STANDARD: u32 = 1;
+
 // The root is this variable.
 pub const ROOT: u32 = 0;
 
 // A clause without a condition is registered with this number for it.
 pub const NO_CONDITION: u32 = 4_294_967_295;
 
-pub fn all() -> [u32; 8]
+pub fn all() -> [u32; 11]
     ensures { λ r. ⌜ r ≡ codesOf ⌝ }
 {
     [
@@ -32,6 +40,9 @@ pub fn all() -> [u32; 8]
         LEAF,
         AND,
         OR,
+        SINGLE,
+        UNION,
+        STANDARD,
         ROOT,
         NO_CONDITION,
     ]

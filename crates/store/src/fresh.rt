@@ -6,6 +6,7 @@ ghost use Rattle.store.specs.Fresh.{freshWords, freshOut, freshStore};
 ghost use Rattle.store.specs.Layout.{words};
 use crate::Made;
 use crate::areas;
+use crate::refusals;
 use crate::set_blank;
 use crate::write;
 
@@ -23,7 +24,7 @@ pub fn fresh(s: &mut [u32]) -> Made
     ensures { λ r. ⌜ (r ≡ freshOut (now (s .entry))) × (now (s .exit) ≡ freshStore (now (s .entry))) ⌝ }
 {
     if s.len() < areas::WORDS {
-        return Made::Refused(1);
+        return Made::Refused(refusals::BAD_STORE);
     }
     fill(s);
     Made::Done

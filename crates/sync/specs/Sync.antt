@@ -14,6 +14,7 @@ use Rattle.store.specs.Area.{Area, at, put, putRun}
 use Rattle.store.specs.Codes.{dirty}
 use Rattle.store.specs.Layout.{queued, cacheStates, mirror, mirrorLength, syncFloor, trailLength, trailVariables, clauseCount}
 use Rattle.store.specs.Limits.{requirements}
+use Rattle.store.specs.Refusals.{badStore}
 use Rattle.store.specs.Shape.{soundShape}
 use Rattle.sync.specs.Sweep.{sweep}
 use Rattle.sync.specs.declared.Synced.{Synced}
@@ -85,7 +86,7 @@ syncInStore w = mirroredWords (sweptWords w (touchedIn w))
 
 -- on any words
 unfoldable pub syncOut : List ℕ → Synced
-syncOut w = cond (soundShape w) (Touches (touchesIn w)) (Refused 1)
+syncOut w = cond (soundShape w) (Touches (touchesIn w)) (Refused badStore)
 
 -- the words left, on any words
 unfoldable pub syncStore : List ℕ → List ℕ

@@ -1,6 +1,7 @@
 // Sync: the queue learns which variables were touched since the last one.
 ghost use mathlib.Core.Path.{_≡_};
 ghost use Rattle.sync.specs.Sync.{syncOut, syncStore};
+use store::refusals;
 use store::shape;
 
 pub mod decide_queue;
@@ -20,5 +21,5 @@ pub fn sync(s: &mut [u32]) -> Synced
     if shape::sound(s) {
         return decide_queue::sync(s);
     }
-    Synced::Refused(1)
+    Synced::Refused(refusals::BAD_STORE)
 }

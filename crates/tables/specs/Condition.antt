@@ -7,6 +7,7 @@ use Rattle.store.specs.Area.{Write, puts, write}
 use Rattle.store.specs.Codes.{leafKind}
 use Rattle.store.specs.Layout.{nodeKinds, nodeSets, nodeLefts, nodeRights}
 use Rattle.store.specs.Limits.{nodes}
+use Rattle.store.specs.Refusals.{badId, badStore, loadedTwice, malformed}
 use Rattle.store.specs.Shape.{soundShape}
 use Rattle.tables.specs.Answer.{leaves, loaded}
 use Rattle.tables.specs.VersionSet.{setLoaded}
@@ -20,20 +21,20 @@ nodeLoaded w node = loaded nodeKinds w node
 -- a leaf: its number is out of range or its version set is not loaded (2), the node is loaded already (12)
 unfoldable pub leafIn : List ℕ → ℕ → ℕ → Loaded
 leafIn w node versionSet =
-    cond (leb nodes node || not (setLoaded w versionSet)) (Refused 2)
-    (cond (nodeLoaded w node) (Refused 12) Done)
+    cond (leb nodes node || not (setLoaded w versionSet)) (Refused badId)
+    (cond (nodeLoaded w node) (Refused loadedTwice) Done)
 
 -- a branch: malformed is "a condition node whose child is not smaller than itself" (11)
 unfoldable pub branchIn : List ℕ → ℕ → ℕ → ℕ → Loaded
 branchIn w node left right =
-    cond (leb nodes node || not (nodeLoaded w left) || not (nodeLoaded w right)) (Refused 2)
-    (cond (leb node left || leb node right) (Refused 11)
-    (cond (nodeLoaded w node) (Refused 12) Done))
+    cond (leb nodes node || not (nodeLoaded w left) || not (nodeLoaded w right)) (Refused badId)
+    (cond (leb node left || leb node right) (Refused malformed)
+    (cond (nodeLoaded w node) (Refused loadedTwice) Done))
 
 -- on a store of sound shape: kind 0 is a leaf, 1 `and`, 2 `or`; another kind is unknown (2)
 unfoldable pub loadConditionIn : List ℕ → ℕ → ℕ → ℕ → ℕ → Loaded
 loadConditionIn w node kind left right =
-    cond (ltb 2 kind) (Refused 2) (cond (eqb kind 0) (leafIn w node left) (branchIn w node left right))
+    cond (ltb 2 kind) (Refused badId) (cond (eqb kind 0) (leafIn w node left) (branchIn w node left right))
 
 -- what a leaf has stored
 abbrev pub leafWrites : ℕ → ℕ → List Write
@@ -66,7 +67,7 @@ loadConditionInStore w node kind left right =
 
 -- on any words
 unfoldable pub loadConditionOut : List ℕ → ℕ → ℕ → ℕ → ℕ → Loaded
-loadConditionOut w node kind left right = cond (soundShape w) (loadConditionIn w node kind left right) (Refused 1)
+loadConditionOut w node kind left right = cond (soundShape w) (loadConditionIn w node kind left right) (Refused badStore)
 
 -- "Each refusal but 8 changes no word of the store"
 unfoldable pub loadConditionStore : List ℕ → ℕ → ℕ → ℕ → ℕ → List ℕ

@@ -7,6 +7,7 @@ use lib.ListN.{length}
 use Rattle.store.specs.Area.{at, putRun, Write, puts, write}
 use Rattle.store.specs.Layout.{disjunctionStarts, disjunctionSizes, literalCount, literalVariables, literalSigns}
 use Rattle.store.specs.Limits.{disjunctions, literalRoom, lastVariable}
+use Rattle.store.specs.Refusals.{badId, badStore, loadedTwice, noRoom}
 use Rattle.store.specs.Shape.{every, upTo, soundShape}
 use Rattle.tables.specs.Answer.{leaves, loaded}
 use Rattle.tables.specs.declared.Literals.{Literals}
@@ -29,9 +30,9 @@ literalsFit vs signs = eqb (length vs) (length signs) && every (upTo lastVariabl
 -- room for its literals (3)
 unfoldable pub loadDisjunctionIn : List ℕ → ℕ → List ℕ → List ℕ → Loaded
 loadDisjunctionIn w disjunction vs signs =
-    cond (leb disjunctions disjunction || not (literalsFit vs signs)) (Refused 2)
-    (cond (disjunctionLoaded w disjunction) (Refused 12)
-    (cond (ltb literalRoom (at literalCount 0 w + length vs)) (Refused 3) Done))
+    cond (leb disjunctions disjunction || not (literalsFit vs signs)) (Refused badId)
+    (cond (disjunctionLoaded w disjunction) (Refused loadedTwice)
+    (cond (ltb literalRoom (at literalCount 0 w + length vs)) (Refused noRoom) Done))
 
 -- the literals go behind those that are there; a disjunction has one more than how many it has stored
 abbrev pub spanWrites : List ℕ → ℕ → ℕ → List Write
@@ -55,7 +56,7 @@ loadDisjunctionInStore w disjunction vs signs =
 
 -- on any words
 unfoldable pub loadDisjunctionOut : List ℕ → ℕ → List ℕ → List ℕ → Loaded
-loadDisjunctionOut w disjunction vs signs = cond (soundShape w) (loadDisjunctionIn w disjunction vs signs) (Refused 1)
+loadDisjunctionOut w disjunction vs signs = cond (soundShape w) (loadDisjunctionIn w disjunction vs signs) (Refused badStore)
 
 -- "Each refusal but 8 changes no word of the store"
 unfoldable pub loadDisjunctionStore : List ℕ → ℕ → List ℕ → List ℕ → List ℕ

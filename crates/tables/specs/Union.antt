@@ -8,6 +8,7 @@ use Rattle.store.specs.Area.{put, putRun}
 use Rattle.store.specs.Layout.{unionSizes, unionSets}
 use Rattle.store.specs.Limits.{unions, unionRoom}
 use Rattle.store.specs.Numbers.{allFrom}
+use Rattle.store.specs.Refusals.{badId, badStore, loadedTwice, malformed, noRoom}
 use Rattle.store.specs.Shape.{every, soundShape}
 use Rattle.tables.specs.Answer.{leaves, loaded}
 use Rattle.tables.specs.VersionSet.{setLoaded}
@@ -34,10 +35,10 @@ distinct l = allFrom (newAt l) 0 (length l)
 -- it is loaded already (12), it has more than eight members (3)
 unfoldable pub loadUnionIn : List ℕ → ℕ → List ℕ → Loaded
 loadUnionIn w union members =
-    cond (leb unions union || not (every (setLoaded w) members)) (Refused 2)
-    (cond (not (distinct members)) (Refused 11)
-    (cond (unionLoaded w union) (Refused 12)
-    (cond (ltb unionRoom (length members)) (Refused 3) Done)))
+    cond (leb unions union || not (every (setLoaded w) members)) (Refused badId)
+    (cond (not (distinct members)) (Refused malformed)
+    (cond (unionLoaded w union) (Refused loadedTwice)
+    (cond (ltb unionRoom (length members)) (Refused noRoom) Done)))
 
 -- a union has one more than how many members it has stored, and its members in its eight places
 unfoldable pub membersPut : List ℕ → ℕ → List ℕ → List ℕ
@@ -49,7 +50,7 @@ loadUnionInStore w union members = leaves (loadUnionIn w union members) (members
 
 -- on any words
 unfoldable pub loadUnionOut : List ℕ → ℕ → List ℕ → Loaded
-loadUnionOut w union members = cond (soundShape w) (loadUnionIn w union members) (Refused 1)
+loadUnionOut w union members = cond (soundShape w) (loadUnionIn w union members) (Refused badStore)
 
 -- "Each refusal but 8 changes no word of the store"
 unfoldable pub loadUnionStore : List ℕ → ℕ → List ℕ → List ℕ

@@ -6,6 +6,7 @@ use lib.Dec.{leb}
 use Rattle.store.specs.Area.{put}
 use Rattle.store.specs.Layout.{setNames}
 use Rattle.store.specs.Limits.{names, versionSets}
+use Rattle.store.specs.Refusals.{badId, badStore, loadedTwice}
 use Rattle.store.specs.Shape.{soundShape}
 use Rattle.tables.specs.Answer.{leaves, loaded}
 use Rattle.tables.specs.declared.Loaded.{Loaded}
@@ -18,8 +19,8 @@ setLoaded w versionSet = loaded setNames w versionSet
 -- on a store of sound shape: its number or its name is out of range (2), it is loaded already (12)
 unfoldable pub loadVersionSetIn : List ℕ → ℕ → ℕ → Loaded
 loadVersionSetIn w versionSet name =
-    cond (leb versionSets versionSet || leb names name) (Refused 2)
-    (cond (setLoaded w versionSet) (Refused 12) Done)
+    cond (leb versionSets versionSet || leb names name) (Refused badId)
+    (cond (setLoaded w versionSet) (Refused loadedTwice) Done)
 
 -- a loaded version set has one more than its name stored
 abbrev pub named : List ℕ → ℕ → ℕ → List ℕ
@@ -31,7 +32,7 @@ loadVersionSetInStore w versionSet name = leaves (loadVersionSetIn w versionSet 
 
 -- on any words
 unfoldable pub loadVersionSetOut : List ℕ → ℕ → ℕ → Loaded
-loadVersionSetOut w versionSet name = cond (soundShape w) (loadVersionSetIn w versionSet name) (Refused 1)
+loadVersionSetOut w versionSet name = cond (soundShape w) (loadVersionSetIn w versionSet name) (Refused badStore)
 
 -- "Each refusal but 8 changes no word of the store"
 unfoldable pub loadVersionSetStore : List ℕ → ℕ → ℕ → List ℕ

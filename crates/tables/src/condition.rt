@@ -12,6 +12,7 @@ use crate::version_set;
 use store::codes;
 use store::limits;
 use store::read;
+use store::refusals;
 use store::wide;
 use store::write;
 
@@ -32,13 +33,13 @@ fn leaf_case(s: &[u32], node: u32, set: u32) -> Loaded
     ensures { λ r. ⌜ r ≡ leafIn (now (s .entry)) node set ⌝ }
 {
     if limits::NODES as u32 <= node {
-        return Loaded::Refused(2);
+        return Loaded::Refused(refusals::BAD_ID);
     }
     if version_set::set_loaded(s, set) {} else {
-        return Loaded::Refused(2);
+        return Loaded::Refused(refusals::BAD_ID);
     }
     if node_loaded(s, node) {
-        return Loaded::Refused(12);
+        return Loaded::Refused(refusals::LOADED_TWICE);
     }
     Loaded::Done
 }
@@ -49,22 +50,22 @@ fn branch_case(s: &[u32], node: u32, left: u32, right: u32) -> Loaded
     ensures { λ r. ⌜ r ≡ branchIn (now (s .entry)) node left right ⌝ }
 {
     if limits::NODES as u32 <= node {
-        return Loaded::Refused(2);
+        return Loaded::Refused(refusals::BAD_ID);
     }
     if node_loaded(s, left) {} else {
-        return Loaded::Refused(2);
+        return Loaded::Refused(refusals::BAD_ID);
     }
     if node_loaded(s, right) {} else {
-        return Loaded::Refused(2);
+        return Loaded::Refused(refusals::BAD_ID);
     }
     if node <= left {
-        return Loaded::Refused(11);
+        return Loaded::Refused(refusals::MALFORMED);
     }
     if node <= right {
-        return Loaded::Refused(11);
+        return Loaded::Refused(refusals::MALFORMED);
     }
     if node_loaded(s, node) {
-        return Loaded::Refused(12);
+        return Loaded::Refused(refusals::LOADED_TWICE);
     }
     Loaded::Done
 }
@@ -75,7 +76,7 @@ fn load_case(s: &[u32], node: u32, kind: u32, left: u32, right: u32) -> Loaded
     ensures { λ r. ⌜ r ≡ loadConditionIn (now (s .entry)) node kind left right ⌝ }
 {
     if 2 < kind {
-        return Loaded::Refused(2);
+        return Loaded::Refused(refusals::BAD_ID);
     }
     if kind == 0 {
         return leaf_case(s, node, left);

@@ -13,6 +13,7 @@ use store::areas;
 use store::lent;
 use store::limits;
 use store::read;
+use store::refusals;
 use store::wide;
 use store::write;
 
@@ -62,16 +63,16 @@ fn load_case(s: &[u32], disjunction: u32, variables: &[u32], signs: &[u32]) -> L
     ensures { λ r. ⌜ r ≡ loadDisjunctionIn (now (s .entry)) disjunction (now (variables .entry)) (now (signs .entry)) ⌝ }
 {
     if limits::DISJUNCTIONS as u32 <= disjunction {
-        return Loaded::Refused(2);
+        return Loaded::Refused(refusals::BAD_ID);
     }
     if literals_fit(variables, signs) {} else {
-        return Loaded::Refused(2);
+        return Loaded::Refused(refusals::BAD_ID);
     }
     if disjunction_loaded(s, disjunction) {
-        return Loaded::Refused(12);
+        return Loaded::Refused(refusals::LOADED_TWICE);
     }
     if limits::LITERAL_ROOM - wide(read::literal_count(s)) < variables.len() {
-        return Loaded::Refused(3);
+        return Loaded::Refused(refusals::NO_ROOM);
     }
     Loaded::Done
 }

@@ -4,6 +4,7 @@ ghost use Rattle.tables.specs.Condition.{loadConditionOut, loadCondition
 ghost use Rattle.tables.specs.Disjunction.{loadDisjunctionOut, loadDisjunctionStore};
 ghost use Rattle.tables.specs.Union.{loadUnionOut, loadUnionStore};
 ghost use Rattle.tables.specs.VersionSet.{loadVersionSetOut, loadVersionSetStore};
+use store::refusals;
 use store::shape;
 
 pub mod condition;
@@ -30,7 +31,7 @@ pub fn load_version_set(s: &mut [u32], set: u32, name: u32) -> Loaded
     if shape::sound(s) {
         return version_set::load(s, set, name);
     }
-    Loaded::Refused(1)
+    Loaded::Refused(refusals::BAD_STORE)
 }
 
 // Loads a union of version sets, none of them twice.
@@ -40,7 +41,7 @@ pub fn load_union(s: &mut [u32], union: u32, members: &[u32]) -> Loaded
     if shape::sound(s) {
         return version_union::load(s, union, members);
     }
-    Loaded::Refused(1)
+    Loaded::Refused(refusals::BAD_STORE)
 }
 
 // Loads a disjunction: literal j is variables[j] with signs[j] (0 plain, 1 negated).
@@ -50,7 +51,7 @@ pub fn load_disjunction(s: &mut [u32], disjunction: u32, variables: &[u32], sign
     if shape::sound(s) {
         return disjunction::load(s, disjunction, variables, signs);
     }
-    Loaded::Refused(1)
+    Loaded::Refused(refusals::BAD_STORE)
 }
 
 // Loads a condition node: kind 0 is a leaf of the version set `left`, 1 the `and` and 2 the `or` of two nodes.
@@ -60,5 +61,5 @@ pub fn load_condition(s: &mut [u32], node: u32, kind: u32, left: u32, right: u32
     if shape::sound(s) {
         return condition::load(s, node, kind, left, right);
     }
-    Loaded::Refused(1)
+    Loaded::Refused(refusals::BAD_STORE)
 }

@@ -8,6 +8,7 @@ ghost use Rattle.tables.specs.VersionSet.{setLoaded, loadVersionSetIn, l
 use crate::Loaded;
 use store::limits;
 use store::read;
+use store::refusals;
 use store::wide;
 use store::write;
 
@@ -28,13 +29,13 @@ fn load_case(s: &[u32], set: u32, name: u32) -> Loaded
     ensures { λ r. ⌜ r ≡ loadVersionSetIn (now (s .entry)) set name ⌝ }
 {
     if limits::VERSION_SETS as u32 <= set {
-        return Loaded::Refused(2);
+        return Loaded::Refused(refusals::BAD_ID);
     }
     if limits::NAMES as u32 <= name {
-        return Loaded::Refused(2);
+        return Loaded::Refused(refusals::BAD_ID);
     }
     if set_loaded(s, set) {
-        return Loaded::Refused(12);
+        return Loaded::Refused(refusals::LOADED_TWICE);
     }
     Loaded::Done
 }

@@ -13,6 +13,7 @@ use store::areas;
 use store::lent;
 use store::limits;
 use store::read;
+use store::refusals;
 use store::wide;
 use store::write;
 
@@ -77,19 +78,19 @@ fn load_case(s: &[u32], union: u32, members: &[u32]) -> Loaded
     ensures { λ r. ⌜ r ≡ loadUnionIn (now (s .entry)) union (now (members .entry)) ⌝ }
 {
     if limits::UNIONS as u32 <= union {
-        return Loaded::Refused(2);
+        return Loaded::Refused(refusals::BAD_ID);
     }
     if all_loaded(s, members) {} else {
-        return Loaded::Refused(2);
+        return Loaded::Refused(refusals::BAD_ID);
     }
     if distinct(members) {} else {
-        return Loaded::Refused(11);
+        return Loaded::Refused(refusals::MALFORMED);
     }
     if union_loaded(s, union) {
-        return Loaded::Refused(12);
+        return Loaded::Refused(refusals::LOADED_TWICE);
     }
     if limits::UNION_ROOM < members.len() {
-        return Loaded::Refused(3);
+        return Loaded::Refused(refusals::NO_ROOM);
     }
     Loaded::Done
 }

@@ -6,6 +6,7 @@ use lib.Dec.{ltb, leb, eqb}
 use Rattle.store.specs.Area.{at, Write, puts, write}
 use Rattle.store.specs.Layout.{map, trailLength, trailVariables, trailValues, trailClauses}
 use Rattle.store.specs.Limits.{variables, trailRoom, lastLevel}
+use Rattle.store.specs.Refusals.{badId, badLevel, badStore, noRoom, otherValue}
 use Rattle.store.specs.Shape.{soundShape}
 use Rattle.trail.specs.Cell.{cellSide, cellOf}
 use Rattle.trail.specs.Entries.{entries}
@@ -16,14 +17,14 @@ use Rattle.trail.specs.declared.Assigned.the-variants.{New, Already, Ref
 unfoldable pub assignOn : List ℕ → ℕ → ℕ → Assigned
 assignOn w variable value =
     cond (eqb (cellSide (at map variable w)) 2)
-    (cond (ltb (entries w) trailRoom) New (Refused 3))
-    (cond (eqb (cellSide (at map variable w)) value) Already (Refused 5))
+    (cond (ltb (entries w) trailRoom) New (Refused noRoom))
+    (cond (eqb (cellSide (at map variable w)) value) Already (Refused otherValue))
 
 -- on a store of sound shape: tests 2 and 4 first
 unfoldable pub assignIn : List ℕ → ℕ → ℕ → ℕ → Assigned
 assignIn w variable value level =
-    cond (leb variables variable || leb 2 value) (Refused 2)
-    (cond (eqb level 0 || ltb lastLevel level) (Refused 4)
+    cond (leb variables variable || leb 2 value) (Refused badId)
+    (cond (eqb level 0 || ltb lastLevel level) (Refused badLevel)
     (assignOn w variable value))
 
 -- one entry more, and the variable's cell
@@ -52,7 +53,7 @@ assignInStore w variable value level clause = assignLeft (assignIn w variable va
 
 -- on any words
 unfoldable pub assignOut : List ℕ → ℕ → ℕ → ℕ → Assigned
-assignOut w variable value level = cond (soundShape w) (assignIn w variable value level) (Refused 1)
+assignOut w variable value level = cond (soundShape w) (assignIn w variable value level) (Refused badStore)
 
 -- "Each refusal but 8 changes no word of the store"
 unfoldable pub assignStore : List ℕ → ℕ → ℕ → ℕ → ℕ → List ℕ

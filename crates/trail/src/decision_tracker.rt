@@ -25,6 +25,7 @@ use crate::decision_map;
 use store::areas;
 use store::limits;
 use store::read;
+use store::refusals;
 use store::wide;
 use store::write;
 
@@ -50,12 +51,12 @@ fn assign_on(s: &[u32], variable: u32, value: u32) -> Assigned
         if read::trail_length(s) < limits::TRAIL_ROOM as u32 {
             return Assigned::New;
         }
-        return Assigned::Refused(3);
+        return Assigned::Refused(refusals::NO_ROOM);
     }
     if side == value {
         return Assigned::Already;
     }
-    Assigned::Refused(5)
+    Assigned::Refused(refusals::OTHER_VALUE)
 }
 
 // What assigning would answer.
@@ -64,16 +65,16 @@ fn assign_case(s: &[u32], variable: u32, value: u32, level: u32) -> Assigned
     ensures { λ r. ⌜ r ≡ assignIn (now (s .entry)) variable value level ⌝ }
 {
     if limits::VARIABLES as u32 <= variable {
-        return Assigned::Refused(2);
+        return Assigned::Refused(refusals::BAD_ID);
     }
     if 2 <= value {
-        return Assigned::Refused(2);
+        return Assigned::Refused(refusals::BAD_ID);
     }
     if level == 0 {
-        return Assigned::Refused(4);
+        return Assigned::Refused(refusals::BAD_LEVEL);
     }
     if (limits::LAST_LEVEL as u32) < level {
-        return Assigned::Refused(4);
+        return Assigned::Refused(refusals::BAD_LEVEL);
     }
     assign_on(s, variable, value)
 }
@@ -144,7 +145,7 @@ pub fn undo_last(s: &mut [u32]) -> Undone
 {
     let n = read::trail_length(s);
     if n < 2 {
-        return Undone::Refused(6);
+        return Undone::Refused(refusals::NO_STOP);
     }
     let decision = decision_at(s, wide(n) - 1);
     pop(s);
@@ -209,11 +210,11 @@ pub fn undo_until(s: &mut [u32], level: u32) -> Until
     ensures { λ r. ⌜ (r ≡ undoUntilIn (now (s .entry)) level) × (now (s .exit) ≡ undoUntilInStore (now (s .entry)) level) ⌝ }
 {
     if (limits::LAST_LEVEL as u32) < level {
-        return Until::Refused(4);
+        return Until::Refused(refusals::BAD_LEVEL);
     }
     if 0 < level {
         if no_stop(s, level) {
-            return Until::Refused(6);
+            return Until::Refused(refusals::NO_STOP);
         }
         pop_to(s, level);
         return Until::Done;
@@ -255,7 +256,7 @@ pub fn clause_of(s: &[u32], variable: u32) -> Cause
     ensures { λ r. ⌜ r ≡ clauseIn (now (s .entry)) variable ⌝ }
 {
     if limits::VARIABLES as u32 <= variable {
-        return Cause::Refused(2);
+        return Cause::Refused(refusals::BAD_ID);
     }
     let n = wide(read::trail_length(s));
     let k = first_entry(s, variable, n);
@@ -270,7 +271,7 @@ pub fn value_of(s: &[u32], variable: u32) -> Valued
     ensures { λ r. ⌜ r ≡ valueIn (now (s .entry)) variable ⌝ }
 {
     if limits::VARIABLES as u32 <= variable {
-        return Valued::Refused(2);
+        return Valued::Refused(refusals::BAD_ID);
     }
     let cell = read::cell(s, wide(variable));
     if cell == 0 {
