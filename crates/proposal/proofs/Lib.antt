@@ -1,5 +1,6 @@
 pub mod Steps
 pub mod Unrolling
 pub mod Loops
+pub mod Skipping
 pub mod Kept
 pub mod Answers

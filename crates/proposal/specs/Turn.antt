@@ -1,7 +1,7 @@
 -- One clause of the walk at the words: the walk's tests and bests of the environment that the words hold, and what a clause does to the best.
 use mathlib.Core.Bool.{Bool, true, false, cond, not, _&&_}
 use mathlib.Core.List.{List}
-use Prim.Native.Nat.{ℕ, _≤_, _<_}
+use Prim.Native.Nat.{ℕ, zero, suc, _+_, _≤_, _<_}
 use lib.Dec.{eqb}
 use Rattle.evaluate.specs.Standing.{envOf, markOf, ofClause}
 use Rattle.examine.specs.Cache.{metAt, visited}
@@ -70,3 +70,8 @@ weighOf w b k = weighBy (markOf w k) (stopsAt w b) (passedAt w b k) (metAt w k) 
 -- and the words left
 unfoldable pub weighed : List ℕ → Best → ℕ → List ℕ
 weighed w b k = cond (markOf w k) (cond (stopsAt w b) w (cond (passedAt w b k) w (visited w k))) w
+
+-- the first of the n clauses from rank k on that is queued, or the rank behind them
+unfoldable pub nextQueued : List ℕ → ℕ → ℕ → ℕ
+nextQueued w k zero = k
+nextQueued w k (suc n) = cond (markOf w k) k (nextQueued w (k + 1) n)

@@ -1,7 +1,7 @@
 // The walk over the queued clauses of a store of sound shape, in position order. The crate's public call tests the shape
 // and that it is synced, and then calls `propose`.
 ghost use mathlib.Core.Path.{_≡_};
-ghost use Prim.Native.Nat.{_+_, _≤_, _<_};
+ghost use Prim.Native.Nat.{_+_, _-_, _≤_, _<_};
 ghost use lib.ListN.{length};
 ghost use Rattle.store.specs.Area.{at};
 ghost use Rattle.store.specs.Layout.{words, activities, clauseCount, clauseIds};
@@ -10,7 +10,7 @@ ghost use Rattle.store.specs.Shape.{Sound};
 ghost use Rattle.rules.specs.Walk.{anyHot, better};
 ghost use Rattle.evaluate.specs.Standing.{envOf};
 ghost use Rattle.evaluate.specs.View.{from, listAt};
-ghost use Rattle.proposal.specs.Turn.{hotAt, coldAt, shieldedAt, passedAt, largestAt, topAt, stopsAt, bestAt, weighOf, weighed, Fine};
+ghost use Rattle.proposal.specs.Turn.{hotAt, coldAt, shieldedAt, passedAt, largestAt, topAt, stopsAt, bestAt, weighOf, weighed, Fine, nextQueued};
 ghost use Rattle.proposal.specs.Propose.{choosing, dying, second, answer, ended, Sane, proposalIn, proposalInStore};
 use crate::Proposal;
 use examine::Met;
@@ -230,6 +230,21 @@ fn died(s: &[u32], k: u32, drops: u32) -> Walked
     }
 }
 
+// The first clause from k on that is queued, or n.
+fn next_queued(s: &[u32], k: u32, n: u32) -> u32
+    requires { ⌜ (Sound (now s)) × (k ≤ n) × (n ≡ at clauseCount 0 (now s)) ⌝ }
+    ensures { λ r. ⌜ r ≡ nextQueued (now (s .entry)) k (n - k) ⌝ }
+{
+    let mut i = k;
+    while i < n {
+        if read::queued(s, wide(i)) == 1 {
+            return i;
+        }
+        i += 1;
+    }
+    n
+}
+
 // The walk from a best on.
 fn settle(s: &mut [u32], from: u32, first: Best, drops: u32) -> Walked
     requires { ⌜ (Sound (now s)) × (from ≤ at clauseCount 0 (now s)) × (Fine (now s) first) × (drops ≤ from) ⌝ }
@@ -240,7 +255,7 @@ fn settle(s: &mut [u32], from: u32, first: Best, drops: u32) -> Walked
     }
     let n = read::clause_count(s);
     let highest = top(s);
-    let mut k = from;
+    let mut k = next_queued(s, from, n);
     let mut b = first;
     let mut d = drops;
     while k < n {
@@ -253,7 +268,7 @@ fn settle(s: &mut [u32], from: u32, first: Best, drops: u32) -> Walked
             Weighed::Enough => return chosen(b, d),
             Weighed::Fatal => return died(s, k, d),
         }
-        k += 1;
+        k = next_queued(s, k + 1, n);
     }
     chosen(b, d)
 }
@@ -264,7 +279,7 @@ fn walk(s: &mut [u32]) -> Walked
     ensures { λ r. ⌜ (ended r (now (s .exit)) ≡ answer (now (s .entry))) × (Sane (now (s .entry)) (r .out)) ⌝ }
 {
     let n = read::clause_count(s);
-    let mut k: u32 = 0;
+    let mut k = next_queued(s, 0, n);
     let mut d: u32 = 0;
     while k < n {
         let met = inspection::visit(s, wide(k));
@@ -281,7 +296,7 @@ fn walk(s: &mut [u32]) -> Walked
             }
             Met::Dead => return died(s, k, d),
         }
-        k += 1;
+        k = next_queued(s, k + 1, n);
     }
     Walked {
         out: Out::Nothing,

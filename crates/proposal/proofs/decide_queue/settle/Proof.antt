@@ -3,13 +3,14 @@ use Prim.Native.Nat.{_-_}
 use native.Mathlib.Omega.{arith}
 use borrow.Author.Needs.{needs}
 use Rattle.proposal.proofs.Loops.{Second, as-told, begin-second, sane-choose, sane-dead, second-beside, second-dead, second-ends, second-ready, second-stops, second-turn, second-weighing, settle-one}
+use Rattle.proposal.proofs.Skipping.{next-less, next-ready, second-skip}
 use Rattle.proposal.proofs.Steps.{stop-one}
 use Rattle.proposal.specs.Propose.{second}
 use Rattle.proposal.proofs.decide_queue.settle.Statement.{statement}
 use Rattle.proposal.proofs.decide_queue.settle.Tie as tie
 
 abbrev Inv-loop : tie.InvT-loop
-Inv-loop s₀ from drops n highest k₀ b₀ d₀ s k b d = Second s₀ s n highest k b d (second s₀ b₀ k₀ d₀ s₀)
+Inv-loop s₀ from drops n highest k₀ b₀ d₀ s k b d = Second s₀ s n highest k b d (second s₀ b₀ from d₀ s₀)
 
 abbrev μ-loop : tie.MeasureT-loop
 μ-loop s₀ from drops n highest k₀ b₀ d₀ s k b d = n - k
@@ -26,8 +27,11 @@ clause-count-requires c κs = c .before .before .before .before .pre .0 .long
 top-requires : tie.Need-top-requires Inv-loop μ-loop
 top-requires c κs = c .before .before .before .before .before .before .pre .0
 
+next-queued-requires : tie.Need-next-queued-requires Inv-loop μ-loop
+next-queued-requires c κs = (c .before .before .before .before .before .before .before .before .pre .0, omega (arith, c .before .before .before .clause-count .ensures, c .before .before .before .before .before .before .before .before .pre .1), c .before .before .before .clause-count .ensures)
+
 loop-holds : tie.Need-loop-holds Inv-loop μ-loop
-loop-holds c = begin-second _ _ _ _ _ _ (c .before .before .before .before .before .before .before .pre .0) (c .before .before .clause-count .ensures) (c .top .ensures) (c .before .before .before .before .before .before .before .pre .1) (c .before .before .before .before .before .before .before .pre .2) (c .before .before .before .before .before .before .before .pre .3)
+loop-holds c = second-skip _ _ _ _ _ _ _ _ (begin-second _ _ _ _ _ _ (c .before .before .before .before .before .before .before .before .before .pre .0) (c .before .before .before .before .clause-count .ensures) (c .before .before .top .ensures) (c .before .before .before .before .before .before .before .before .before .pre .1) (c .before .before .before .before .before .before .before .before .before .pre .2) (c .before .before .before .before .before .before .before .before .before .pre .3)) _ (c .next-queued .ensures)
 
 weigh-requires : tie.Need-weigh-requires Inv-loop μ-loop
 weigh-requires c κs = second-ready _ _ _ _ _ _ _ _ (c .before .before .loop .inv) (c .before .loop-test .taken)
@@ -62,14 +66,17 @@ same-length-2 c = search needs
 returns-3 : tie.Need-returns-3 Inv-loop μ-loop
 returns-3 c = as-told _ _ _ _ _ (c .died .ensures) (second-dead _ _ _ _ _ _ _ _ (c .before .before .before .before .before .before .before .before .before .loop .inv) (c .before .before .before .before .before .before .before .before .loop-test .taken) _ (c .before .before .before .before .before .before .weigh .ensures .1) (sym (c .before .before .before .before .before .before .weigh .ensures .0) ∙ c .before .before .enum-told2 .given .1)) (sane-dead _ _)
 
-add-k : tie.Need-add-k Inv-loop μ-loop
-add-k c = omega (arith, c .before .before .before .before .before .before .before .loop-test .taken, c .before .before .before .before .before .before .before .before .loop .inv .few)
+add-next-queued : tie.Need-add-next-queued Inv-loop μ-loop
+add-next-queued c = omega (arith, c .before .before .before .before .before .before .before .before .loop-test .taken, c .before .before .before .before .before .before .before .before .before .loop .inv .few)
+
+next-queued-requires-2 : tie.Need-next-queued-requires-2 Inv-loop μ-loop
+next-queued-requires-2 c κs = next-ready _ _ _ _ (second-beside _ _ _ _ _ _ _ _ (c .before .before .before .before .before .before .before .before .before .loop .inv) (c .before .before .before .before .before .before .before .before .loop-test .taken) _ (c .before .before .before .before .before .before .weigh .ensures .1)) (omega (arith, c .before .before .before .before .before .before .before .before .loop-test .taken)) (c .before .before .before .before .before .before .before .before .before .loop .inv .size)
 
 loop-less : tie.Need-loop-less Inv-loop μ-loop
-loop-less c = search needs
+loop-less c = next-less _ _ _ _ (c .before .before .before .before .before .before .before .before .before .loop-test .taken) (c .next-queued2 .ensures)
 
 loop-again : tie.Need-loop-again Inv-loop μ-loop
-loop-again c = second-turn _ _ _ _ _ _ _ _ (c .before .before .before .before .before .before .before .before .loop .inv) (c .before .before .before .before .before .before .before .loop-test .taken) _ (c .before .before .before .before .before .weigh .ensures .1) _ _ (sym (c .before .before .before .before .before .weigh .ensures .0) ∙ c .before .x .given .1)
+loop-again c = second-skip _ _ _ _ _ _ _ _ (second-turn _ _ _ _ _ _ _ _ (c .before .before .before .before .before .before .before .before .before .before .loop .inv) (c .before .before .before .before .before .before .before .before .before .loop-test .taken) _ (c .before .before .before .before .before .before .before .weigh .ensures .1) _ _ (sym (c .before .before .before .before .before .before .before .weigh .ensures .0) ∙ c .before .before .before .x .given .1)) _ (c .next-queued2 .ensures)
 
 chosen-requires-3 : tie.Need-chosen-requires-3 Inv-loop μ-loop
 chosen-requires-3 c κs = search needs
@@ -90,6 +97,7 @@ settle-spec =
     returns
     clause-count-requires
     top-requires
+    next-queued-requires
     loop-holds
     weigh-requires
     enum-known-x
@@ -102,7 +110,8 @@ settle-spec =
     died-requires
     same-length-2
     returns-3
-    add-k
+    add-next-queued
+    next-queued-requires-2
     loop-less
     loop-again
     chosen-requires-3

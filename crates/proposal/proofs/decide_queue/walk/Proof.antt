@@ -4,6 +4,7 @@ use Prim.Native.Nat.{_-_}
 use native.Mathlib.Omega.{arith}
 use borrow.Author.Needs.{needs}
 use Rattle.proposal.proofs.Loops.{First, as-told, begin-first, first-beside, first-dies, first-ends, first-ready, first-settles, first-turn-dropped, first-turn-unqueued, sane-dead, sane-nothing, settle-ready, settle-sane}
+use Rattle.proposal.proofs.Skipping.{first-skip, next-less, next-ready}
 use Rattle.proposal.proofs.decide_queue.walk.Statement.{statement}
 use Rattle.proposal.proofs.decide_queue.walk.Tie as tie
 
@@ -16,8 +17,11 @@ abbrev μ-loop : tie.MeasureT-loop
 clause-count-requires : tie.Need-clause-count-requires Inv-loop μ-loop
 clause-count-requires c κs = c .before .before .pre .long
 
+next-queued-requires : tie.Need-next-queued-requires Inv-loop μ-loop
+next-queued-requires c κs = (c .before .before .before .before .pre, omega arith, c .before .clause-count .ensures)
+
 loop-holds : tie.Need-loop-holds Inv-loop μ-loop
-loop-holds c = begin-first _ _ (c .before .before .before .pre) (c .clause-count .ensures)
+loop-holds c = first-skip _ _ _ _ _ (begin-first _ _ (c .before .before .before .before .before .pre) (c .before .before .clause-count .ensures)) _ (c .next-queued .ensures)
 
 wide-requires : tie.Need-wide-requires Inv-loop μ-loop
 wide-requires c κs = search needs
@@ -64,14 +68,17 @@ same-length-2 c = search needs
 returns-2 : tie.Need-returns-2 Inv-loop μ-loop
 returns-2 c = as-told _ _ _ _ _ (c .died .ensures) (first-dies _ _ _ _ _ (c .before .before .before .before .before .before .before .before .before .before .loop .inv) _ (c .before .before .before .before .before .before .before .before .before .loop-test .taken) (c .before .before .before .before .before .before .before .wide .ensures) _ (c .before .before .before .before .before .before .visit .ensures .1) (sym (c .before .before .before .before .before .before .visit .ensures .0) ∙ c .before .before .enum-told3 .given .1)) (sane-dead _ _)
 
-add-k : tie.Need-add-k Inv-loop μ-loop
-add-k c = omega (arith, c .before .before .before .before .before .before .loop-test .taken, c .before .before .before .before .before .before .before .loop .inv .few)
+add-next-queued : tie.Need-add-next-queued Inv-loop μ-loop
+add-next-queued c = omega (arith, c .before .before .before .before .before .before .before .loop-test .taken, c .before .before .before .before .before .before .before .before .loop .inv .few)
+
+next-queued-requires-2 : tie.Need-next-queued-requires-2 Inv-loop μ-loop
+next-queued-requires-2 c κs = next-ready _ _ _ _ (first-beside _ _ _ _ _ (c .before .before .before .before .before .before .before .before .loop .inv) _ (c .before .before .before .before .before .before .before .loop-test .taken) (c .before .before .before .before .before .wide .ensures) _ (c .before .before .before .before .visit .ensures .1)) (omega (arith, c .before .before .before .before .before .before .before .loop-test .taken)) (c .before .before .before .before .before .before .before .before .loop .inv .size)
 
 loop-less : tie.Need-loop-less Inv-loop μ-loop
-loop-less c = search needs
+loop-less c = next-less _ _ _ _ (c .before .before .before .before .before .before .before .before .loop-test .taken) (c .next-queued2 .ensures)
 
 loop-again : tie.Need-loop-again Inv-loop μ-loop
-loop-again c = ⊎-elim (λ w. rw (w .2) (first-turn-unqueued _ _ _ _ _ (c .before .before .before .before .before .before .before .loop .inv) _ (c .before .before .before .before .before .before .loop-test .taken) (c .before .before .before .before .wide .ensures) _ (c .before .before .before .visit .ensures .1) (sym (c .before .before .before .visit .ensures .0) ∙ w .1 .given .1))) (λ w. rw (w .2) (first-turn-dropped _ _ _ _ _ (c .before .before .before .before .before .before .before .loop .inv) _ (c .before .before .before .before .before .before .loop-test .taken) (c .before .before .before .before .wide .ensures) _ (c .before .before .before .visit .ensures .1) (sym (c .before .before .before .visit .ensures .0) ∙ w .1 .given .1))) (c .match .came)
+loop-again c = first-skip _ _ _ _ _ (⊎-elim (λ w. rw (w .2) (first-turn-unqueued _ _ _ _ _ (c .before .before .before .before .before .before .before .before .before .loop .inv) _ (c .before .before .before .before .before .before .before .before .loop-test .taken) (c .before .before .before .before .before .before .wide .ensures) _ (c .before .before .before .before .before .visit .ensures .1) (sym (c .before .before .before .before .before .visit .ensures .0) ∙ w .1 .given .1))) (λ w. rw (w .2) (first-turn-dropped _ _ _ _ _ (c .before .before .before .before .before .before .before .before .before .loop .inv) _ (c .before .before .before .before .before .before .before .before .loop-test .taken) (c .before .before .before .before .before .before .wide .ensures) _ (c .before .before .before .before .before .visit .ensures .1) (sym (c .before .before .before .before .before .visit .ensures .0) ∙ w .1 .given .1))) (c .before .before .match .came)) _ (c .next-queued2 .ensures)
 
 same-length-3 : tie.Need-same-length-3 Inv-loop μ-loop
 same-length-3 c = search needs
@@ -86,6 +93,7 @@ walk-spec =
     Inv-loop
     μ-loop
     clause-count-requires
+    next-queued-requires
     loop-holds
     wide-requires
     visit-requires
@@ -102,7 +110,8 @@ walk-spec =
     died-requires
     same-length-2
     returns-2
-    add-k
+    add-next-queued
+    next-queued-requires-2
     loop-less
     loop-again
     same-length-3
