@@ -69,7 +69,7 @@ fn is_cold(s: &[u32], k: usize) -> bool
     requires { ⌜ (Sound (now s)) × (k < at clauseCount 0 (now s)) ⌝ }
     ensures { λ r. ⌜ r ≡ coldAt (now (s .entry)) k ⌝ }
 {
-    if read::mode(s) == 1 {
+    if read::mode(s) == codes::STANDARD {
         return !is_hot(s, k);
     }
     false
@@ -119,7 +119,7 @@ fn top(s: &[u32]) -> u32
     requires { ⌜ Sound (now s) ⌝ }
     ensures { λ r. ⌜ r ≡ topAt (now (s .entry)) ⌝ }
 {
-    if read::mode(s) == 1 {
+    if read::mode(s) == codes::STANDARD {
         return largest_of(s, limits::NAMES);
     }
     0
@@ -133,7 +133,7 @@ fn stops(s: &[u32], b: Best, highest: u32) -> bool
     if b.count == 1 {
         return true;
     }
-    if read::mode(s) == 1 {
+    if read::mode(s) == codes::STANDARD {
         return activity::same(b.activity, highest);
     }
     false
