@@ -98,7 +98,7 @@ module _ (w W s : List ℕ) (from key : ℕ) (h : Sound w) (l : key ≤ requirem
     pub spoiling-skip : (r : List ℕ) → r ≡ s → spoilsAt s W key ≡ false → r ≡ spoiledFrom from w W (key + 1)
     spoiling-skip r e t = e ∙ sweep-skip cacheStates (spoilsFrom from w W) 0 w s key so (here key (omega arith) false t)
 
-    -- a block more
+    -- a block more, by what the words that were left say of it
     pub spoiling-block : (r : List ℕ) → r ≡ spoiledFrom key s W (key + block) → r ≡ spoiledFrom from w W (key + block)
     spoiling-block r e =
         e
@@ -124,9 +124,15 @@ module _ (w W : List ℕ) (from : ℕ) where
   spoiling-none = sweep-idle cacheStates (spoilsFrom from w W) 0 w from (λ i n. rw (lt-leb from i n))
 
   pub dirty-block : DirtyBlock w from → w ≡ spoiledFrom from w W (from + block)
-  dirty-block d = sweep-idle cacheStates (spoilsFrom from w W) 0 w (from + block) (λ i n. ⊎-elim (λ (m : i < from). rw (lt-leb from i m)) (λ (m : from ≤ i). rw (le-leb from i m) (sym (dirty-stays w i _ refl W (d i m n)))) (lt-or i from))
+  dirty-block d =
+      sweep-idle cacheStates (spoilsFrom from w W) 0 w (from + block)
+      (λ i n.
+      ⊎-elim
+      (λ (m : i < from). rw (lt-leb from i m))
+      (λ (m : from ≤ i). rw (le-leb from i m) (sym (dirty-stays w i _ refl W (d i m n))))
+      (lt-or i from))
 
--- a ceiling that is no state but dirty
+-- a ceiling of 0 says that a block is dirty
 pub ceiling-dirty : (w : List ℕ) (from top : ℕ) → every (upTo top) (area (record { base = cacheStates .base + from; size = block }) w) ≡ true → Sound w → from + block ≤ requirements → top ≡ 0 → DirtyBlock w from
 unfolding at
 ceiling-dirty w from top e h l z key m n =

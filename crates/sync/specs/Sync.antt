@@ -69,21 +69,21 @@ wokenWords w W = sweep queued (wakesAt w W) 1 w (at clauseCount 0 w)
 unfoldable pub spoiledWords : List ℕ → List ℕ → List ℕ
 spoiledWords w W = sweep cacheStates (spoilsAt w W) dirty w requirements
 
--- so many caches are looked at together
+-- so many caches are a block
 abbrev pub block : ℕ
 block = 32
 
--- those from a key on are dirty
+-- the caches of the block that begins at a key are dirty
 abbrev pub DirtyBlock : List ℕ → ℕ → Type 0
-DirtyBlock w from = (key : ℕ) → from ≤ key → key < from + block → at cacheStates key w ≡ dirty
+DirtyBlock w first = (key : ℕ) → first ≤ key → key < first + block → at cacheStates key w ≡ dirty
 
--- a cache becomes dirty, and is not before a key
+-- a cache becomes dirty and is the first of some or comes after it
 abbrev pub spoilsFrom : ℕ → List ℕ → List ℕ → ℕ → Bool
-spoilsFrom from w W key = leb from key && spoilsAt w W key
+spoilsFrom first w W key = leb first key && spoilsAt w W key
 
--- the caches from a key on, before another, that become dirty are made so
+-- from the first of some on, before an end, the caches that become dirty are made so
 abbrev pub spoiledFrom : ℕ → List ℕ → List ℕ → ℕ → List ℕ
-spoiledFrom from w W to = sweep cacheStates (spoilsFrom from w W) dirty w to
+spoiledFrom first w W end = sweep cacheStates (spoilsFrom first w W) dirty w end
 
 -- the one sweep: marks first, for a cache that is broken wakes its clauses
 unfoldable pub sweptWords : List ℕ → List ℕ → List ℕ

@@ -87,8 +87,8 @@ fn spoils(s: &[u32], t: &[bool; PLACES], key: usize) -> bool
     occurrences::in_requirement(s, t, key)
 }
 
-// Whether the caches of a block are all dirty: their states put together are, for no number is below that one. Where it answers no
-// the block is walked, whatever is in it, so that the contract says what follows of a yes alone.
+// Whether the caches of a block are all dirty: their states put together are, and no number is below that one. The contract says
+// what a yes means and nothing of a no: the block is then walked, which is right whatever is in it.
 fn all_dirty(s: &[u32], from: usize) -> bool
     requires { ⌜ (Sound (now s)) × (from + block ≤ requirements) ⌝ }
     ensures { λ r. ⌜ (r ≡ true → DirtyBlock (now (s .entry)) from) ⌝ }
