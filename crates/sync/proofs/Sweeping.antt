@@ -2,7 +2,7 @@
 use mathlib.Core.Bool.{Bool, true, false, cond}
 use mathlib.Core.List.{List}
 use mathlib.Core.Logic.{⊎-elim}
-use mathlib.Core.Path.{_≡_, refl, ap, _∙_}
+use mathlib.Core.Path.{_≡_, refl, sym, ap, _∙_}
 use Prim.Native.Nat.{ℕ, zero, suc, _+_, _≤_, _<_}
 use native.Mathlib.Numerals.{add-one}
 use native.Mathlib.Omega.{arith}
@@ -65,6 +65,12 @@ module _ (a : Area) (p : ℕ → Bool) (x : ℕ) (w : List ℕ) where
       before true k e q = at-put-else a n j x (sweep a p x w n) k e ∙ q
       before false k e q = q
 
+  -- a sweep that picks no word
+  pub sweep-idle : (n : ℕ) → ((i : ℕ) → i < n → p i ≡ false) → w ≡ sweep a p x w n
+  unfolding sweep
+  sweep-idle zero f = refl
+  sweep-idle (suc n) f = rw (f n (omega arith)) (sweep-idle n (λ i h. f i (omega arith)))
+
   -- the loop: what was swept so far, and one word more
   module _ (s : List ℕ) (k : ℕ) (so : s ≡ sweep a p x w k) where
     pub sweep-set : p k ≡ true → put a k x s ≡ sweep a p x w (k + 1)
@@ -74,6 +80,16 @@ module _ (a : Area) (p : ℕ → Bool) (x : ℕ) (w : List ℕ) where
     pub sweep-skip : p k ≡ false → s ≡ sweep a p x w (k + 1)
     unfolding sweep
     sweep-skip e = rw (add-one k, sweep, e) so
+
+-- a sweep that goes on where another ended: it picks nothing before, and from there on what the other would
+pub sweep-on : (a : Area) (p q : ℕ → Bool) (x : ℕ) (w s : List ℕ) (k : ℕ) → s ≡ sweep a p x w k → ((i : ℕ) → i < k → q i ≡ false) → ((i : ℕ) → k ≤ i → q i ≡ p i) → (n : ℕ) → sweep a q x s (k + n) ≡ sweep a p x w (k + n)
+unfolding sweep
+sweep-on a p q x w s k so f g zero =
+    let e : k + zero ≡ k = omega arith in
+    rw e (sym (sweep-idle a q x s k f) ∙ so)
+sweep-on a p q x w s k so f g (suc n) =
+    let e : k + suc n ≡ suc (k + n) = omega arith in
+    rw (e, sweep, g (k + n) (omega arith), sweep-on a p q x w s k so f g n)
 
 pub sweep-none : (a : Area) (p : ℕ → Bool) (x : ℕ) (w : List ℕ) → w ≡ sweep a p x w 0
 unfolding sweep

@@ -1,25 +1,29 @@
 -- The loops of a sync and how its steps join. Assumes nothing.
 use mathlib.Core.Bool.{Bool, true, false}
 use mathlib.Core.List.{List, [], _∷_, _++_}
-use mathlib.Core.Path.{_≡_, sym, ap, _∙_}
+use mathlib.Core.Logic.{⊎-elim}
+use mathlib.Core.Path.{_≡_, refl, sym, ap, _∙_}
 use Prim.Native.Nat.{ℕ, _+_, _-_, _≤_, _<_}
 use native.Mathlib.Omega.{arith}
+use borrow.Author.Tests.{leb-true, le-leb, lt-leb}
 use lib.Dec.{T}
-use lib.ListN.{length}
+use lib.ListN.{length, getD}
 use Rattle.evaluate.specs.Standing.{cacheOf}
 use Rattle.rules.specs.Walk.{member}
-use Rattle.store.proofs.AreaLaws.{length-put, area-kept}
-use Rattle.store.specs.Area.{Area, area, at, put, putRun, apart}
+use Rattle.store.proofs.AreaLaws.{at-is, length-area, length-put, area-kept}
+use Rattle.store.proofs.Choice.{lt-or}
+use Rattle.store.proofs.Counting.{every-at}
+use Rattle.store.specs.Area.{Area, area, at, put, putRun, Fits, apart}
 use Rattle.store.specs.Layout.{queued, cacheStates, cacheCandidates, cacheNames, cacheCounts, mirror, mirrorLength, syncFloor, trailLength, trailVariables, map, clauseCount, clauseParents, clauseRequirements, clauseConditions, environmentRegion}
 use Rattle.store.specs.Limits.{variables, requirements, disjunctions, trailRoom, lastVariable, lastRequirement}
 use Rattle.store.specs.Shape.{every, upTo, Sound}
 use Rattle.evaluate.proofs.Froms.{upto-next, upto-done, every-from, every-both}
 use Rattle.sync.proofs.Kept.{few, woken-sound, spoiled-sound, new-in-range}
-use Rattle.sync.proofs.Sweeping.{length-sweep, area-sweep, sound-sweep, at-sweep-else, sweep-set, sweep-skip, sweep-same}
-use Rattle.sync.proofs.Tests.{cache-kept, wakes-kept, spoils-kept, wakes-alike, spoils-alike}
+use Rattle.sync.proofs.Sweeping.{length-sweep, area-sweep, sound-sweep, at-sweep-else, sweep-idle, sweep-set, sweep-skip, sweep-on, sweep-same}
+use Rattle.sync.proofs.Tests.{dirty-stays, cache-kept, wakes-kept, spoils-kept, wakes-alike, spoils-alike}
 use Rattle.sync.proofs.Touched.{entered-both, table-tells}
 use Rattle.sync.specs.Sweep.{sweep}
-use Rattle.sync.specs.Sync.{wordsFrom, oldEntries, newEntries, touchedIn, wakesAt, spoilsAt, wokenWords, spoiledWords, sweptWords, copiedWords, mirroredWords, syncInStore}
+use Rattle.sync.specs.Sync.{wordsFrom, oldEntries, newEntries, touchedIn, wakesAt, spoilsAt, block, DirtyBlock, spoilsFrom, spoiledFrom, wokenWords, spoiledWords, sweptWords, copiedWords, mirroredWords, syncInStore}
 use Rattle.sync.specs.Table.{inTable, entriesOf, entered, tableOf}
 
 -- an entry is of a variable, and lies in its area
@@ -64,37 +68,81 @@ module _ (w W s : List ℕ) (n k : ℕ) (h : Sound w) (q : n ≡ at clauseCount 
       let e : k ≡ at clauseCount 0 w = omega arith in
       so ∙ ap (sweep queued (wakesAt w W) 1 w) e
 
--- the caches
-module _ (w W s : List ℕ) (key : ℕ) (h : Sound w) (l : key ≤ requirements) (so : s ≡ sweep cacheStates (spoilsAt w W) 0 w key) where
+-- the caches from a key on
+module _ (w W s : List ℕ) (from key : ℕ) (h : Sound w) (l : key ≤ requirements) (so : s ≡ spoiledFrom from w W key) where
   pub spoiling-length : length s ≡ length w
-  spoiling-length = ap length so ∙ length-sweep cacheStates (spoilsAt w W) 0 w key l
+  spoiling-length = ap length so ∙ length-sweep cacheStates (spoilsFrom from w W) 0 w key l
 
   pub spoiling-sound : Sound s
-  spoiling-sound = rw so (sound-sweep cacheStates (spoilsAt w W) 0 w 2 tt tt (omega arith) h key l)
+  spoiling-sound = rw so (sound-sweep cacheStates (spoilsFrom from w W) 0 w 2 tt tt (omega arith) h key l)
 
   spoiling-area : (b : Area) → T (apart b cacheStates) → area b s ≡ area b w
-  spoiling-area b t = ap (area b) so ∙ area-sweep cacheStates (spoilsAt w W) 0 w b t key l
+  spoiling-area b t = ap (area b) so ∙ area-sweep cacheStates (spoilsFrom from w W) 0 w b t key l
 
-  spoiling-cache : cacheOf s key ≡ cacheOf w key
-  spoiling-cache =
-      cache-kept s w key
-      (ap (at cacheStates key) so ∙ at-sweep-else cacheStates (spoilsAt w W) 0 w key key l (omega arith))
+  spoiling-cache : (j : ℕ) → key ≤ j → cacheOf s j ≡ cacheOf w j
+  spoiling-cache j m =
+      cache-kept s w j
+      (ap (at cacheStates j) so ∙ at-sweep-else cacheStates (spoilsFrom from w W) 0 w j key l m)
       (spoiling-area cacheCandidates tt) (spoiling-area cacheNames tt) (spoiling-area cacheCounts tt)
 
-  spoiling-test : spoilsAt w W key ≡ spoilsAt s W key
-  spoiling-test = sym (spoils-kept s w (spoiling-area environmentRegion tt) (spoiling-area map tt) W key spoiling-cache)
+  spoiling-test : (j : ℕ) → key ≤ j → spoilsAt s W j ≡ spoilsAt w W j
+  spoiling-test j m = spoils-kept s w (spoiling-area environmentRegion tt) (spoiling-area map tt) W j (spoiling-cache j m)
 
-  pub spoiling-set : (r : List ℕ) → r ≡ put cacheStates key 0 s → spoilsAt s W key ≡ true → r ≡ sweep cacheStates (spoilsAt w W) 0 w (key + 1)
-  spoiling-set r e t = e ∙ sweep-set cacheStates (spoilsAt w W) 0 w s key so (spoiling-test ∙ t)
+  module _ (m : from ≤ key) where
+    here : (j : ℕ) → key ≤ j → (b : Bool) → spoilsAt s W j ≡ b → spoilsFrom from w W j ≡ b
+    here j n b t = rw (le-leb from j (omega arith)) (sym (spoiling-test j n) ∙ t)
 
-  pub spoiling-skip : (r : List ℕ) → r ≡ s → spoilsAt s W key ≡ false → r ≡ sweep cacheStates (spoilsAt w W) 0 w (key + 1)
-  spoiling-skip r e t = e ∙ sweep-skip cacheStates (spoilsAt w W) 0 w s key so (spoiling-test ∙ t)
+    pub spoiling-set : (r : List ℕ) → r ≡ put cacheStates key 0 s → spoilsAt s W key ≡ true → r ≡ spoiledFrom from w W (key + 1)
+    spoiling-set r e t = e ∙ sweep-set cacheStates (spoilsFrom from w W) 0 w s key so (here key (omega arith) true t)
 
-  pub spoiling-done : requirements ≤ key → s ≡ spoiledWords w W
+    pub spoiling-skip : (r : List ℕ) → r ≡ s → spoilsAt s W key ≡ false → r ≡ spoiledFrom from w W (key + 1)
+    spoiling-skip r e t = e ∙ sweep-skip cacheStates (spoilsFrom from w W) 0 w s key so (here key (omega arith) false t)
+
+    -- a block more, by what the words that were left say of it
+    pub spoiling-block : (r : List ℕ) → r ≡ spoiledFrom key s W (key + block) → r ≡ spoiledFrom from w W (key + block)
+    spoiling-block r e =
+        e
+        ∙ sweep-on cacheStates (spoilsFrom from w W) (spoilsFrom key s W) 0 w s key so
+        (λ i n. rw (lt-leb key i n))
+        (λ i n. rw (le-leb key i n) (sym (here i n (spoilsAt s W i) refl)))
+        block
+
+  pub spoiling-end : (end : ℕ) → key ≤ end → end ≤ key → s ≡ spoiledFrom from w W end
+  spoiling-end end m n =
+      let e : key ≡ end = omega arith in
+      so ∙ ap (spoiledFrom from w W) e
+
+  pub spoiling-done : from ≡ 0 → requirements ≤ key → s ≡ spoiledWords w W
   unfolding spoiledWords
-  spoiling-done m =
-      let e : key ≡ requirements = omega arith in
-      so ∙ ap (sweep cacheStates (spoilsAt w W) 0 w) e
+  spoiling-done z m =
+      spoiling-end requirements l m
+      ∙ sweep-same cacheStates (spoilsFrom from w W) (spoilsAt w W) 0 w requirements (λ i. rw (le-leb from i (omega arith)))
+
+-- before the first of them, and where all of a block are dirty, nothing changes
+module _ (w W : List ℕ) (from : ℕ) where
+  pub spoiling-none : w ≡ spoiledFrom from w W from
+  spoiling-none = sweep-idle cacheStates (spoilsFrom from w W) 0 w from (λ i n. rw (lt-leb from i n))
+
+  pub dirty-block : DirtyBlock w from → w ≡ spoiledFrom from w W (from + block)
+  dirty-block d =
+      sweep-idle cacheStates (spoilsFrom from w W) 0 w (from + block)
+      (λ i n.
+      ⊎-elim
+      (λ (m : i < from). rw (lt-leb from i m))
+      (λ (m : from ≤ i). rw (le-leb from i m) (sym (dirty-stays w i _ refl W (d i m n))))
+      (lt-or i from))
+
+-- a ceiling of 0 says that a block is dirty
+pub ceiling-dirty : (w : List ℕ) (from top : ℕ) → every (upTo top) (area (record { base = cacheStates .base + from; size = block }) w) ≡ true → Sound w → from + block ≤ requirements → top ≡ 0 → DirtyBlock w from
+unfolding at
+ceiling-dirty w from top e h l z key m n =
+    let part : Area = record { base = cacheStates .base + from; size = block } in
+    let fits : Fits part w = omega (arith, h .long) in
+    let i : ℕ = key - from in
+    let low : at part i w ≤ top = leb-true _ _ (every-at (upTo top) (area part w) e i (rw (length-area part w fits) (omega arith))) in
+    let there : cacheStates .base + key ≡ part .base + i = omega arith in
+    let same : at cacheStates key w ≡ at part i w = sym (at-is cacheStates key w (omega arith)) ∙ ap (λ k. getD w k 0) there ∙ at-is part i w (omega arith) in
+    omega (arith, low, same)
 
 -- the copy: what is left to copy makes the whole copy
 pub copy-start : (w : List ℕ) (floor n : ℕ) → floor ≡ at syncFloor 0 w → n ≡ at trailLength 0 w → copiedWords w ≡ putRun mirror floor (wordsFrom trailVariables w floor (n - floor)) w

@@ -1,7 +1,9 @@
 -- Sync over the words: the touched variables, one sweep over the marks and one over the caches, the new mirror, and refusal 1.
 use mathlib.Core.Bool.{Bool, false, not, cond, _&&_}
 use mathlib.Core.List.{List, [], _∷_, _++_}
-use Prim.Native.Nat.{ℕ, _+_, _-_}
+use mathlib.Core.Path.{_≡_}
+use Prim.Native.Nat.{ℕ, _+_, _-_, _≤_, _<_}
+use lib.Dec.{leb}
 use Rattle.evaluate.specs.Standing.{envOf, cacheOf, queueOf}
 use Rattle.evaluate.specs.View.{assigned, from, listsAt}
 use Rattle.rules.specs.Sweep.{broken, woken}
@@ -67,6 +69,22 @@ wokenWords w W = sweep queued (wakesAt w W) 1 w (at clauseCount 0 w)
 -- the caches that become dirty are made so
 unfoldable pub spoiledWords : List ℕ → List ℕ → List ℕ
 spoiledWords w W = sweep cacheStates (spoilsAt w W) dirty w requirements
+
+-- so many caches are a block
+abbrev pub block : ℕ
+block = 32
+
+-- the caches of the block that begins at a key are dirty
+abbrev pub DirtyBlock : List ℕ → ℕ → Type 0
+DirtyBlock w first = (key : ℕ) → first ≤ key → key < first + block → at cacheStates key w ≡ dirty
+
+-- a cache becomes dirty and is the first of some or comes after it
+abbrev pub spoilsFrom : ℕ → List ℕ → List ℕ → ℕ → Bool
+spoilsFrom first w W key = leb first key && spoilsAt w W key
+
+-- from the first of some on, before an end, the caches that become dirty are made so
+abbrev pub spoiledFrom : ℕ → List ℕ → List ℕ → ℕ → List ℕ
+spoiledFrom first w W end = sweep cacheStates (spoilsFrom first w W) dirty w end
 
 -- the one sweep: marks first, for a cache that is broken wakes its clauses
 unfoldable pub sweptWords : List ℕ → List ℕ → List ℕ

@@ -1,11 +1,12 @@
 // Sync on a store of sound shape. The crate's public call tests the shape and then calls it.
+ghost use mathlib.Core.Bool.{true};
 ghost use mathlib.Core.Path.{_≡_};
-ghost use Prim.Native.Nat.{_<_};
+ghost use Prim.Native.Nat.{_+_, _≤_, _<_};
 ghost use Rattle.store.specs.Area.{at};
 ghost use Rattle.store.specs.Layout.{clauseCount, syncFloor, trailLength};
 ghost use Rattle.store.specs.Limits.{requirements};
 ghost use Rattle.store.specs.Shape.{Sound};
-ghost use Rattle.sync.specs.Sync.{touchesIn, brokenAt, wakesAt, spoilsAt, wokenWords, spoiledWords, copiedWords, mirroredWords, syncInStore};
+ghost use Rattle.sync.specs.Sync.{touchesIn, brokenAt, wakesAt, spoilsAt, block, DirtyBlock, spoiledFrom, wokenWords, spoiledWords, copiedWords, mirroredWords, syncInStore};
 ghost use Rattle.sync.specs.Table.{inTable};
 ghost use Rattle.sync.specs.declared.Synced.the-variants.{Touches};
 use crate::Synced;
@@ -13,11 +14,16 @@ use crate::occurrences;
 use crate::table;
 use crate::table::PLACES;
 use evaluate::assignment;
+use store::areas;
 use store::codes;
 use store::limits;
 use store::read;
+use store::shape;
 use store::wide;
 use store::write;
+
+// How many caches are looked at together. It divides their number.
+const BLOCK: usize = 32;
 
 // Whether a cache says "satisfied by x", x is not true, and a candidate is touched.
 fn breaks(s: &[u32], t: &[bool; PLACES], key: usize) -> bool
@@ -81,17 +87,41 @@ fn spoils(s: &[u32], t: &[bool; PLACES], key: usize) -> bool
     occurrences::in_requirement(s, t, key)
 }
 
-// Makes the caches dirty that become so.
-fn spoil_caches(s: &mut [u32], t: &[bool; PLACES])
-    requires { ⌜ Sound (now s) ⌝ }
-    ensures { λ _. ⌜ now (s .exit) ≡ spoiledWords (now (s .entry)) (inTable (now (t .entry))) ⌝ }
+// Whether the caches of a block are all dirty: their states put together are, and no number is below that one. The contract says
+// what a yes means and nothing of a no: the block is then walked, which is right whatever is in it.
+fn all_dirty(s: &[u32], from: usize) -> bool
+    requires { ⌜ (Sound (now s)) × (from + block ≤ requirements) ⌝ }
+    ensures { λ r. ⌜ (r ≡ true → DirtyBlock (now (s .entry)) from) ⌝ }
 {
-    let mut key: usize = 0;
-    while key < limits::REQUIREMENTS {
+    shape::ceiling(s, areas::CACHE_STATES + from, BLOCK) == codes::DIRTY
+}
+
+// Makes the caches of a block dirty that become so.
+fn spoil_block(s: &mut [u32], t: &[bool; PLACES], from: usize)
+    requires { ⌜ (Sound (now s)) × (from + block ≤ requirements) ⌝ }
+    ensures { λ _. ⌜ now (s .exit) ≡ spoiledFrom from (now (s .entry)) (inTable (now (t .entry))) (from + block) ⌝ }
+{
+    let end = from + BLOCK;
+    let mut key = from;
+    while key < end {
         if spoils(s, t, key) {
             write::cache_state(s, key, codes::DIRTY);
         }
         key += 1;
+    }
+}
+
+// Makes the caches dirty that become so. Most are dirty already, and a block of such is passed over.
+fn spoil_caches(s: &mut [u32], t: &[bool; PLACES])
+    requires { ⌜ Sound (now s) ⌝ }
+    ensures { λ _. ⌜ now (s .exit) ≡ spoiledWords (now (s .entry)) (inTable (now (t .entry))) ⌝ }
+{
+    let mut from: usize = 0;
+    while from < limits::REQUIREMENTS {
+        if all_dirty(s, from) {} else {
+            spoil_block(s, t, from);
+        }
+        from += BLOCK;
     }
 }
 
