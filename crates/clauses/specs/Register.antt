@@ -9,7 +9,7 @@ use Rattle.clauses.specs.Record.{ofKey, rankOf}
 use Rattle.requirement.specs.Copy.{tabled}
 use Rattle.requirement.specs.Tables.{keyOf, keyAt}
 use Rattle.store.specs.Area.{at, put}
-use Rattle.store.specs.Codes.{noCondition}
+use Rattle.store.specs.Codes.{noCondition, trueValue}
 use Rattle.store.specs.Layout.{queued, map, clauseCount, conditionTotal, nameTotal, clauseParents, clauseRequirements, clauseConditions, clauseIds}
 use Rattle.store.specs.Limits.{variables, clauses, conditionRoom, nameRoom, requirements}
 use Rattle.store.specs.Ranks.{inserted}
@@ -64,7 +64,7 @@ pub record Placed (w : List ℕ) (parent key condition : ℕ) : Type 0 where
 
 -- a new clause is queued exactly if its parent is true now
 unfoldable pub queuedMark : List ℕ → ℕ → ℕ
-queuedMark w parent = cond (eqb (cellSide (at map parent w)) 1) 1 0
+queuedMark w parent = cond (eqb (cellSide (at map parent w)) trueValue) 1 0
 
 -- a record put in at its rank: its requirement as the key
 unfoldable pub recordIn : ℕ → ℕ → Clause → List ℕ → List ℕ
@@ -78,7 +78,7 @@ recordIn rank count clause w =
 abbrev pub clauseOf : ℕ → ℕ → ℕ → ℕ → Clause
 clauseOf parent key condition id = record { parent = parent; requirement = ofKey key; condition = conditionWord condition; id = id }
 
--- the record and its mark at the clause's rank, and the three sums
+-- the record and its mark at the clause's rank, the count and the two sums
 unfoldable pub registered : List ℕ → ℕ → ℕ → ℕ → ℕ → List ℕ
 registered w parent key condition id =
     put nameTotal 0 (at nameTotal 0 w + distinctNames w key)

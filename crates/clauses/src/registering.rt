@@ -159,7 +159,7 @@ fn mark_of(s: &[u32], parent: u32) -> u32
     requires { ⌜ (words ≤ length (now s)) × (parent < variables) ⌝ }
     ensures { λ r. ⌜ r ≡ queuedMark (now (s .entry)) parent ⌝ }
 {
-    if decision_map::side(read::cell(s, wide(parent))) == 1 {
+    if decision_map::side(read::cell(s, wide(parent))) == codes::TRUE {
         return 1;
     }
     0

@@ -6,6 +6,7 @@ use lib.Dec.{leb, eqb}
 use lib.ListN.{length, getD, take, drop}
 use Rattle.conditions.specs.Truth.{some}
 use Rattle.store.specs.Area.{at}
+use Rattle.store.specs.Codes.{trueValue}
 use Rattle.store.specs.Layout.{map}
 use Rattle.store.specs.Limits.{lastVariable}
 use Rattle.store.specs.Numbers.{allFrom}
@@ -15,7 +16,7 @@ use Rattle.trail.specs.Cell.{cellSide}
 use Rattle.conditions.specs.declared.Holds.{Holds}
 use Rattle.conditions.specs.declared.Holds.the-variants.{Yes, No, Refused}
 
--- the largest kind of a conjunct: 0 solvables, 1 empty
+-- the largest kind of a conjunct: 0 solvables (some candidates of a name match), 1 empty (all match: the complement is empty)
 abbrev pub lastKind : ℕ
 lastKind = 1
 
@@ -33,7 +34,7 @@ saneAt kinds starts lengths cells j = sane cells (getD kinds j 0) (getD starts j
 
 -- a candidate is assigned true
 unfoldable pub isTrue : List ℕ → ℕ → Bool
-isTrue w x = eqb (cellSide (at map x w)) 1
+isTrue w x = eqb (cellSide (at map x w)) trueValue
 
 -- "each conjunct has a candidate assigned true", both kinds alike
 unfoldable pub holdsAt : List ℕ → List ℕ → List ℕ → List ℕ → ℕ → Bool

@@ -10,6 +10,7 @@ ghost use Rattle.store.specs.Shape.{Sound, every, upTo};
 ghost use Rattle.conditions.specs.Truth.{some};
 ghost use Rattle.conditions.specs.Disjunct.{sane, saneAt, saneAll, isTrue, holdsAt, disjunctIn};
 use crate::Holds;
+use store::codes;
 use store::lent;
 use store::limits;
 use store::read;
@@ -17,7 +18,7 @@ use store::refusals;
 use store::wide;
 use trail::decision_map;
 
-// The largest kind of a conjunct: 0 solvables, 1 empty.
+// The largest kind of a conjunct: 0 solvables (some candidates of a name match), 1 empty (all match: the complement is empty).
 const LAST_KIND: usize = 1;
 
 // Whether a candidate of the list is assigned true.
@@ -28,7 +29,7 @@ fn some_true(s: &[u32], list: &[u32]) -> bool
 {
     let mut i: usize = 0;
     while i < list.len() {
-        if decision_map::side(read::cell(s, wide(list[i]))) == 1 {
+        if decision_map::side(read::cell(s, wide(list[i]))) == codes::TRUE {
             return true;
         }
         i += 1;

@@ -89,6 +89,12 @@ fn try_levels(words: &mut [u32]) {
     say_assigned(trail::assign(words, 1, 1, 2_147_483_648, 10));
     say::text(b"one entry at that level, undo-until 1: ");
     say_until(trail::undo_until(words, 1));
+    say::text(b"undo-until 0: ");
+    say_until(trail::undo_until(words, 0));
+    say::text(b"level 2: ");
+    say_assigned(trail::assign(words, 0, 1, 2, 10));
+    say::text(b"one entry at level 2, undo-until 1: ");
+    say_until(trail::undo_until(words, 1));
 }
 
 fn try_rewriting(words: &[u32], node: u32) {

@@ -9,7 +9,7 @@ use Rattle.proposal.specs.declared.Proposal.the-variants.{Choose, Nothing, Dead
 use Rattle.settings.specs.declared.activity.Admitted.{Admitted}
 use Rattle.settings.specs.declared.activity.Admitted.the-variants.{Bits, Bad}
 
--- the bits of an activity that a store may hold, else 0, which no chosen one is (`bits-are-stored` of promises)
+-- the bits of an activity that a store may hold; 0 for any other, which a proposal never chooses (`bits-are-stored` of promises)
 abbrev pub bitsOf : Admitted → ℕ
 bitsOf (Bits bits) = bits
 bitsOf Bad = 0

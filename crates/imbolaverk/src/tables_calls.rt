@@ -13,7 +13,7 @@ fn loaded_number(answer: Loaded) -> u32
     }
 }
 
-// Loads a version set: it is of a name.
+// Loads a version set with its name.
 #[no_mangle]
 pub extern "C" fn imb_load_version_set(s: &mut [u32], set: u32, name: u32) -> u32
     ensures { λ r. ⌜ (r ≡ numberOf (now (s .entry)) (load-version-set set name)) × (now (s .exit) ≡ leftBy (now (s .entry)) (load-version-set set name)) ⌝ }

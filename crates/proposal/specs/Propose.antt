@@ -76,14 +76,15 @@ proposalOut w = cond (soundShape w) (cond (unsynced w) (Refused notSynced) (prop
 unfoldable pub proposalStore : List ℕ → List ℕ
 proposalStore w = cond (soundShape w) (cond (unsynced w) w (proposalInStore w)) w
 
--- the answer's number and values in document 01; a dead clause is 8
+-- the answer's number in document 01; a dead clause is 8
 abbrev pub proposalNumber : Proposal → ℕ
 proposalNumber (Chosen candidate parent clause activity count dropped) = 0
 proposalNumber (NoneOpen dropped) = 0
 proposalNumber (DeadAt clause dropped) = deadClause
 proposalNumber (Refused n) = n
 
--- 1 if a candidate was found, the candidate, its parent and clause id, the activity's bits, the count, the clauses dropped
+-- its values. Chosen: 1, the candidate, its parent and clause id, the activity's bits, the count, the drops; nothing: 0, the drops; dead: its
+-- clause id, the drops
 abbrev pub proposalValues : Proposal → List ℕ
 proposalValues (Chosen candidate parent clause activity count dropped) = 1 ∷ candidate ∷ parent ∷ clause ∷ toBits binary32 activity ∷ count ∷ dropped ∷ []
 proposalValues (NoneOpen dropped) = 0 ∷ dropped ∷ []

@@ -1,5 +1,4 @@
 -- A clause's position, from the registrations as they were made; what it means that a store keeps its clauses in position order.
--- Assumes nothing.
 use mathlib.Core.Path.{_≡_}
 use mathlib.Core.Bool.{cond}
 use mathlib.Core.List.{List, [], _∷_, _++_, map}

@@ -1,5 +1,4 @@
 -- The queue: marks, caches, and the proposal that reads only queued clauses.
--- Assumes nothing.
 use mathlib.Core.Bool.{Bool, true, false, _&&_}
 use mathlib.Core.List.{List, [], _∷_}
 use Prim.Native.Nat.{ℕ, suc}

@@ -1,5 +1,4 @@
 -- The store as the calls change it, the stores reached from a fresh one, and what "synced" means.
--- Assumes nothing.
 use mathlib.Core.Path.{_≡_}
 use mathlib.Core.Bool.{Bool, cond}
 use mathlib.Core.List.{List, [], _∷_, _++_}

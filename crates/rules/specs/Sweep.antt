@@ -1,5 +1,4 @@
 -- Sync at once, over a set of touched variables: what document 01's routing of one variable after the other comes to.
--- Assumes nothing.
 use mathlib.Core.Bool.{Bool, false, not, cond, _&&_, _||_}
 use mathlib.Core.List.{List, [], _∷_}
 use Prim.Native.Nat.{ℕ}

@@ -1,5 +1,4 @@
 -- The walk of document 01, over the clauses, tables, activities, hot names, mode and an assignment, and nothing else.
--- Assumes nothing.
 use mathlib.Core.Bool.{Bool, true, false, not, cond, _&&_, _||_}
 use mathlib.Core.List.{List, [], _∷_, _++_}
 use Prim.Native.Nat.{ℕ, zero, suc, _+_, max}
@@ -98,7 +97,8 @@ frontier a (c ∷ cs) = orNext (firstUndecided a (c .candidates)) (c .name) (cou
 unfoldable pub evaluate : (ℕ → Value) → List CandidateList → State
 evaluate a cs = orElse (firstTrue a (flattened cs)) (frontier a cs)
 
--- all that the walk reads but the assignment: the clauses by rank, the lists of requirements, activities (by their bits), hot names and the mode
+-- all that the walk reads but the assignment: the clauses by rank, the lists of requirements, activities, hot names and the mode. An activity
+-- stands as the bits of its f32: on stored activities their order is the floats' (`order`, `order-eq` in settings)
 pub record Environment : Type 0 where
   pub size : ℕ
   pub parent : ℕ → ℕ
@@ -151,7 +151,7 @@ stops e b = eqb (b .count) 1 || (e .standard && eqb (b .activity) (largest (e .a
 abbrev pub passedOver : Environment → Best → ℕ → Bool
 passedOver e b k = (e .standard && not (isHot e k)) || (eqb (e .parent (b .clause)) root && not (eqb (e .parent k) root))
 
--- "Any other replaces the best if its activity is strictly higher and its count strictly lower"
+-- "Any other replaces the best if its activity is strictly higher and its count strictly lower"; by the bits, whose order is the floats'
 abbrev pub better : Best → Best → Best
 better b d = elim (ltb (b .activity) (d .activity) && ltb (d .count) (b .count)) [ true ↦ d | false ↦ b ]
 

@@ -29,7 +29,7 @@ hotIn w name = cond (leb names name) (Refused badId) Done
 unfoldable pub hotInStore : List ℕ → ℕ → List ℕ
 hotInStore w name = cond (leb names name) w (put hotNames name 1 w)
 
--- the activity of name n once `name` has `bits`; the number of names names none
+-- the activity of name n once `name` has `bits`; no name has the number 128 (`names`), so with it nothing changes, as for setting the mode
 unfoldable pub activityWith : List ℕ → ℕ → ℕ → ℕ → ℕ
 activityWith w name bits n = cond (eqb n name) bits (at activities n w)
 

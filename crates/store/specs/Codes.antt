@@ -39,6 +39,26 @@ unionKind = 1
 abbrev pub standardMode : ℕ
 standardMode = 1
 
+-- what a node is as a call says it, one less than what is stored: a leaf
+abbrev pub calledLeaf : ℕ
+calledLeaf = 0
+
+-- the last of them, `or`
+abbrev pub calledOr : ℕ
+calledOr = 2
+
+-- the values: false
+abbrev pub falseValue : ℕ
+falseValue = 0
+
+-- true
+abbrev pub trueValue : ℕ
+trueValue = 1
+
+-- of a cell of the map alone: undecided
+abbrev pub noValue : ℕ
+noValue = 2
+
 -- "Here the root is variable 0"
 abbrev pub root : ℕ
 root = 0
@@ -49,4 +69,4 @@ noCondition = lastWord
 
 -- all of them, as the source has them
 abbrev pub codesOf : List ℕ
-codesOf = dirty ∷ satisfied ∷ frontier ∷ leafKind ∷ andKind ∷ orKind ∷ singleKind ∷ unionKind ∷ standardMode ∷ root ∷ noCondition ∷ []
+codesOf = dirty ∷ satisfied ∷ frontier ∷ leafKind ∷ andKind ∷ orKind ∷ singleKind ∷ unionKind ∷ standardMode ∷ calledLeaf ∷ calledOr ∷ falseValue ∷ trueValue ∷ noValue ∷ root ∷ noCondition ∷ []

@@ -110,7 +110,7 @@ syncOut w = cond (soundShape w) (Touches (touchesIn w)) (Refused badStore)
 unfoldable pub syncStore : List ℕ → List ℕ
 syncStore w = cond (soundShape w) (syncInStore w) w
 
--- the answer's number and values in document 01
+-- the answer's number in document 01
 abbrev pub syncedNumber : Synced → ℕ
 syncedNumber (Touches n) = 0
 syncedNumber (Refused n) = n

@@ -72,7 +72,7 @@ fn wake_clauses(s: &mut [u32], t: &[bool; PLACES])
     }
 }
 
-// Whether a cache becomes dirty; one that is so is not walked.
+// Whether a cache becomes dirty; one that is dirty already does not.
 fn spoils(s: &[u32], t: &[bool; PLACES], key: usize) -> bool
     requires { ⌜ (Sound (now s)) × (key < requirements) ⌝ }
     ensures { λ r. ⌜ r ≡ spoilsAt (now (s .entry)) (inTable (now (t .entry))) key ⌝ }

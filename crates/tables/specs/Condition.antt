@@ -4,7 +4,7 @@ use mathlib.Core.List.{List, [], _∷_}
 use Prim.Native.Nat.{ℕ, _+_}
 use lib.Dec.{leb, ltb, eqb}
 use Rattle.store.specs.Area.{Write, puts, write}
-use Rattle.store.specs.Codes.{leafKind}
+use Rattle.store.specs.Codes.{calledLeaf, calledOr, leafKind}
 use Rattle.store.specs.Layout.{nodeKinds, nodeSets, nodeLefts, nodeRights}
 use Rattle.store.specs.Limits.{nodes}
 use Rattle.store.specs.Refusals.{badId, badStore, loadedTwice, malformed}
@@ -34,7 +34,7 @@ branchIn w node left right =
 -- on a store of sound shape: kind 0 is a leaf, 1 `and`, 2 `or`; another kind is unknown (2)
 unfoldable pub loadConditionIn : List ℕ → ℕ → ℕ → ℕ → ℕ → Loaded
 loadConditionIn w node kind left right =
-    cond (ltb 2 kind) (Refused badId) (cond (eqb kind 0) (leafIn w node left) (branchIn w node left right))
+    cond (ltb calledOr kind) (Refused badId) (cond (eqb kind calledLeaf) (leafIn w node left) (branchIn w node left right))
 
 -- what a leaf has stored
 abbrev pub leafWrites : ℕ → ℕ → List Write
@@ -58,7 +58,7 @@ branched w node kind left right = puts (branchWrites node kind left right) w
 
 -- the words with a node more, of either kind
 unfoldable pub nodePut : List ℕ → ℕ → ℕ → ℕ → ℕ → List ℕ
-nodePut w node kind left right = cond (eqb kind 0) (leafed w node left) (branched w node kind left right)
+nodePut w node kind left right = cond (eqb kind calledLeaf) (leafed w node left) (branched w node kind left right)
 
 -- the words that loading leaves, on a store of sound shape
 unfoldable pub loadConditionInStore : List ℕ → ℕ → ℕ → ℕ → ℕ → List ℕ

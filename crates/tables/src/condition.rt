@@ -75,10 +75,10 @@ fn load_case(s: &[u32], node: u32, kind: u32, left: u32, right: u32) -> Loaded
     requires { ⌜ words ≤ length (now s) ⌝ }
     ensures { λ r. ⌜ r ≡ loadConditionIn (now (s .entry)) node kind left right ⌝ }
 {
-    if 2 < kind {
+    if codes::CALLED_OR < kind {
         return Loaded::Refused(refusals::BAD_ID);
     }
-    if kind == 0 {
+    if kind == codes::CALLED_LEAF {
         return leaf_case(s, node, left);
     }
     branch_case(s, node, left, right)
@@ -108,7 +108,7 @@ fn put_node(s: &mut [u32], node: u32, kind: u32, left: u32, right: u32)
     requires { ⌜ (words ≤ length (now s)) × (loadConditionIn (now s) node kind left right ≡ Done) ⌝ }
     ensures { λ _. ⌜ now (s .exit) ≡ nodePut (now (s .entry)) node kind left right ⌝ }
 {
-    if kind == 0 {
+    if kind == codes::CALLED_LEAF {
         put_leaf(s, node, left);
         return;
     }
