@@ -74,7 +74,8 @@ enum imb_requirement_kind { IMB_SINGLE = 0, IMB_UNION = 1 };
 /* The kind of a condition node. */
 enum imb_node_kind { IMB_LEAF = 0, IMB_AND = 1, IMB_OR = 2 };
 
-/* The kind of a conjunct. */
+/* The kind of a conjunct: over the candidates that match a version set, where some of the name's do not; or over all candidates of a name,
+ * where every one matches, so the complement is empty. Either holds if one of its candidates is true. */
 enum imb_conjunct_kind { IMB_SOLVABLES = 0, IMB_EMPTY = 1 };
 
 /* The mode: in standard mode a proposal goes on over hot clauses alone. */

@@ -203,13 +203,13 @@ pub enum Node {
     },
 }
 
-/// A conjunct of a disjunct: the candidates of a version set, or none of them.
+/// A conjunct of a disjunct. Either kind holds if one of its candidates is true.
 #[derive(Clone, Debug, PartialEq, Eq)]
 pub enum Conjunct {
-    /// Holds if one of these variables is true.
+    /// The candidates that match a version set, where some of the name's do not.
     Solvables(Vec<u32>),
-    /// No candidates: it does not hold.
-    Empty,
+    /// All candidates of a name: every one matches, so the complement is empty.
+    Empty(Vec<u32>),
 }
 
 /// "Settle this next."
@@ -491,7 +491,7 @@ impl Store {
         for conjunct in conjuncts {
             let (kind, own): (u32, &[u32]) = match conjunct {
                 Conjunct::Solvables(own) => (0, own),
-                Conjunct::Empty => (1, &[]),
+                Conjunct::Empty(own) => (1, own),
             };
             kinds.push(kind);
             starts.push(cells.len() as u32);
