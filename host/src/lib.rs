@@ -603,6 +603,7 @@ fn parted(lengths: &[u32], cells: &[u32]) -> Vec<Vec<u32>> {
 mod tests {
     use super::*;
     use std::collections::BTreeMap;
+    use std::ptr;
 
     const HEADER: &str = include_str!("../../include/imbolaverk.h");
 
@@ -691,6 +692,30 @@ mod tests {
         assert_eq!(store.name(128), Err(Refusal::BadId));
         assert_eq!(store.trail_length()?, 1);
         assert!(store.trail()?[0].is_true());
+        Ok(())
+    }
+
+    #[test]
+    fn the_pointer_of_an_empty_list_may_be_null() -> Result<(), Refusal> {
+        let (read, written, trail) = (ptr::null(), ptr::null_mut(), ptr::null_mut());
+        let mut out = [9; 2];
+        let o = out.as_mut_ptr();
+        let mut store = Store::new();
+        store.load_version_set(0, 0)?;
+        store.load_condition(0, Node::Leaf { version_set: 0 })?;
+        let (s, n) = store.lent();
+        unsafe {
+            assert_eq!(raw::imb_load_union(s, n, 0, read, 0), 0);
+            assert_eq!(raw::imb_load_candidates(s, n, 1, 0, read, 0, read, 0), 0);
+            assert_eq!(raw::imb_load_candidates(s, n, 0, 0, [0].as_ptr(), 1, read, 0), 0);
+            assert_eq!(raw::imb_load_disjunction(s, n, 0, read, 0, read, 0), 0);
+            assert_eq!(raw::imb_copy_candidates(s, n, 1, 0, written, 0, written, 0, o), 0);
+            assert_eq!(raw::imb_copy_trail(s, n, trail, 0, o), 0);
+            assert_eq!(raw::imb_rewrite(s, n, 0, written, 0, written, 0, o), 3);
+            assert_eq!(raw::imb_disjunct_holds(s, n, read, 0, read, 0, read, 0, read, 0, o), 0);
+            assert_eq!(raw::imb_fresh(written, 0), 1);
+        }
+        assert_eq!(out, [1, 0]);
         Ok(())
     }
 
