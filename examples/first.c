@@ -5,7 +5,7 @@
  *     cc -std=c99 -Wall -Wextra -Iinclude examples/first.c target/library/libimbolaverk.a -o target/first
  *     target/first
  *
- * The archive is x86-64, so cc must be a compiler for x86-64. What it prints:
+ * What it prints (it ends with a failure where an answer is another):
  *
  *     asked too early: 7, the store is not synced
  *     proposed: candidate 1 by parent 0, clause 10, activity 0, 3 undecided
@@ -23,16 +23,24 @@ enum { ROOT = 0, PACK = 0, NAME = 0, CLAUSE = 10, FIRST_LEVEL = 1 };
 
 static uint32_t store[IMB_WORDS];
 
-/* Prints a refusal by its number and its words. */
-static void say_refused(const char *what, uint32_t answer) {
+/* Ends the program where something is not as it should be. */
+static void expect(const char *what, int is_so) {
+    if (!is_so) {
+        fprintf(stderr, "it should be so and is not: %s\n", what);
+        exit(EXIT_FAILURE);
+    }
+}
+
+/* Prints a refusal by its number and its words; it must be the expected one. */
+static void say_refused(const char *what, uint32_t expected, uint32_t answer) {
     printf("%s: %u, %s\n", what, (unsigned)answer, imb_answer_text(answer));
+    expect(imb_answer_text(expected), answer == expected);
 }
 
 /* Ends the program where a call is refused that should not be. */
 static void must(const char *call, uint32_t answer) {
     if (answer != IMB_DONE) {
-        say_refused(call, answer);
-        exit(EXIT_FAILURE);
+        say_refused(call, IMB_DONE, answer);
     }
 }
 
@@ -79,15 +87,16 @@ int main(void) {
     must("fresh", imb_fresh(store, IMB_WORDS));
     load_pack();
     assign_true(ROOT, FIRST_LEVEL, 0);
-    say_refused("asked too early", imb_propose(store, IMB_WORDS, first));
+    say_refused("asked too early", IMB_UNSYNCED, imb_propose(store, IMB_WORDS, first));
 
     ask("proposed", first);
+    expect("a candidate is proposed", first[IMB_PROPOSAL_FOUND] == 1);
     assign_true(first[IMB_PROPOSAL_CANDIDATE], FIRST_LEVEL + 1, first[IMB_PROPOSAL_CLAUSE]);
     ask("tried it", tried);
+    expect("nothing is left while it is tried", tried[IMB_PROPOSAL_FOUND] == 0);
     must("undo last", imb_undo_last(store, IMB_WORDS, popped));
     ask("proposed", again);
-    say_refused("taken back too far", imb_undo_last(store, IMB_WORDS, popped));
-
-    /* All but the drop count is the same again. */
-    return memcmp(first, again, IMB_PROPOSAL_DROPPED * sizeof first[0]) == 0 ? EXIT_SUCCESS : EXIT_FAILURE;
+    expect("all but the drop count is the same again", memcmp(first, again, IMB_PROPOSAL_DROPPED * sizeof first[0]) == 0);
+    say_refused("taken back too far", IMB_NO_STOP, imb_undo_last(store, IMB_WORDS, popped));
+    return EXIT_SUCCESS;
 }

@@ -1,26 +1,32 @@
 #!/bin/sh
-# Proves a library of this repository (imbolaverk, or inner for the benchmark) and writes it, for the machine at hand, to
-# target/library/libNAME.a.
+# Proves a library of this repository and writes it to target/library/libNAME.a.
 #
-# The toolchain compiles for x86-64, and there the archive is the toolchain's own. On another machine the LLVM module that the toolchain hands
-# to its clang is compiled once more, for that machine, by the same clang at the same level: `rt` runs over a folder of links to the kit
-# whose clang keeps the module first.
+#     library.sh [NAME [MACHINE]]
+#
+# NAME is imbolaverk (the default), or inner for the benchmark. MACHINE is the one that the archive is for, as `uname -m` says it there (the
+# default is the machine at hand); an archive for another goes to target/library/MACHINE.
+#
+# The toolchain compiles for x86-64, and for it the archive is the toolchain's own. For another machine the LLVM module that the toolchain
+# hands to its clang is compiled once more, for that machine, by the same clang at the same level: `rt` runs over a folder of links to the
+# kit whose clang keeps the module first.
 set -e
 name=${1:-imbolaverk}
-here=$(cd "$(dirname "$0")/.." && pwd)
 machine=$(uname -m)
+wanted=${2:-$machine}
+here=$(cd "$(dirname "$0")/.." && pwd)
+archives=target/library
+[ "$wanted" = "$machine" ] || archives=target/library/$wanted
 cd "$here"
 rt check "$name"
-mkdir -p target/library
-if [ "$machine" = x86_64 ]; then
+mkdir -p "$archives"
+if [ "$wanted" = x86_64 ]; then
     rt staticlib "$name"
-    cp "target/staticlib/lib$name.a" target/library/
+    cp "target/staticlib/lib$name.a" "$archives/"
     exit 0
 fi
 
 kit=${RATTLE_HOME:-$(dirname "$(dirname "$(readlink -f "$(command -v rt)")")")}
-own=$kit/on/$machine
-tools=$own/toolchain/bin
+tools=$kit/on/$machine/toolchain/bin
 links=$(mktemp -d)
 trap 'rm -rf "$links"' EXIT
 mkdir -p "$links/on/$machine/toolchain/bin"
@@ -39,7 +45,7 @@ for folder in on/$machine/toolchain/bin on/$machine/toolchain on/$machine on .; 
     done
 done
 RATTLE_HOME=$links rt staticlib "$name"
-"$tools/clang" --target="$machine-unknown-linux-gnu" --no-default-config -O3 -fPIC -ffunction-sections -fdata-sections -c -x ir "$links/module.bc" -o "$links/module.o"
-rm -f "target/library/lib$name.a"
-"$tools/llvm-ar" rcs "target/library/lib$name.a" "$links/module.o"
-echo "library.sh: target/library/lib$name.a is the same module compiled for $machine"
+"$tools/clang" --target="$wanted-unknown-linux-gnu" --no-default-config -O3 -fPIC -ffunction-sections -fdata-sections -c -x ir "$links/module.bc" -o "$links/module.o"
+rm -f "$archives/lib$name.a"
+"$tools/llvm-ar" rcs "$archives/lib$name.a" "$links/module.o"
+echo "library.sh: $archives/lib$name.a is the same module compiled for $wanted"

@@ -1,11 +1,25 @@
 #!/bin/sh
-# A quick pass of compare and hostile, about a minute once the library is proved. Says so and passes where there is no Rust compiler;
-# without the original only the hostile calls run.
+# A quick pass of the example script, compare and hostile, about a minute once the library and the program are proved. Says so and passes
+# where there is no Rust compiler; without the original compare is left out, without a C compiler the C example.
 set -e
 here=$(cd "$(dirname "$0")/.." && pwd)
+if [ -n "${SHARED:-}" ]; then
+    if [ ! -d "$SHARED/oracle" ]; then
+        echo "host: SHARED is $SHARED, and there is no folder $SHARED/oracle" >&2
+        exit 1
+    fi
+    SHARED=$(cd "$SHARED" && pwd)
+    export SHARED
+fi
 cd "$here"
+mkdir -p target
+"$here/settle" "$here/examples/morning.script" >target/morning.answers
+if ! diff "$here/examples/morning.answers" target/morning.answers; then
+    echo "host: ./settle examples/morning.script does not print examples/morning.answers" >&2
+    exit 1
+fi
 if ! command -v cargo >/dev/null 2>&1; then
-    echo "host: skipped, there is no cargo here"
+    echo "host: the rest is skipped, there is no cargo here"
     exit 0
 fi
 host/library.sh imbolaverk
@@ -22,4 +36,6 @@ cargo test --release --offline --quiet
 if command -v cc >/dev/null 2>&1; then
     cc -std=c99 -Wall -Wextra -Werror -I"$here/include" "$here/examples/first.c" "$here/target/library/libimbolaverk.a" -o "$here/target/first"
     "$here/target/first"
+else
+    echo "host: the C example skipped, there is no cc here"
 fi

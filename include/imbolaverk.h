@@ -5,8 +5,8 @@
  * nothing between calls: all of its state is in the words that the caller lends. Of the C library it needs memcpy and memset.
  *
  * Every call takes the store first, as a pointer and its length in words; every other list is a pointer and a length too. An output
- * `out[N]` is a pointer to N words. A list or an output that a call writes, the store among them, may overlap no other list or output of
- * that call. Calls on different stores may run at once.
+ * `out[N]` is a pointer to N words. The pointer of an empty list may be NULL; no other may be. A list or an output that a call writes,
+ * the store among them, may overlap no other list or output of that call. Calls on different stores may run at once.
  *
  * Every call but imb_words answers IMB_DONE or a refusal. Every call is total: whatever the arguments and the words are, it answers
  * and never reads or writes outside the lists that it was lent. A refusal changes no word of the store and no output, with one
@@ -74,7 +74,8 @@ enum imb_requirement_kind { IMB_SINGLE = 0, IMB_UNION = 1 };
 /* The kind of a condition node. */
 enum imb_node_kind { IMB_LEAF = 0, IMB_AND = 1, IMB_OR = 2 };
 
-/* The kind of a conjunct. */
+/* The kind of a conjunct: over the candidates that match a version set, where some of the name's do not; or over all candidates of a name,
+ * where every one matches, so the complement is empty. Either holds if one of its candidates is true. */
 enum imb_conjunct_kind { IMB_SOLVABLES = 0, IMB_EMPTY = 1 };
 
 /* The mode: in standard mode a proposal goes on over hot clauses alone. */

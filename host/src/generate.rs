@@ -319,7 +319,7 @@ impl Script {
         let mut said = vec![];
         for _ in 0..self.dice.below(4) {
             let kind = self.dice.below(2);
-            let cells = if kind == 0 { self.cells() } else { String::new() };
+            let cells = self.cells();
             said.push(format!("{kind}{cells}"));
         }
         format!("holds {}", said.join(" ; ")).trim_end().to_string()

@@ -36,16 +36,40 @@ pub use raw::Decision;
 
 use std::fmt;
 
-/// The most entries that a trail has.
-pub const TRAIL_ENTRIES: usize = 512;
+/// How many variables there are: 0 to 511, of which 0 is the root.
+pub const VARIABLES: usize = 512;
+/// The most clauses that are registered.
+pub const CLAUSES: usize = 512;
+/// How many names there are.
+pub const NAMES: usize = 128;
+/// The most version sets.
+pub const VERSION_SETS: usize = 256;
+/// The most unions.
+pub const UNIONS: usize = 64;
 /// The most version sets that a union has, and so the most candidate lists of a requirement.
 pub const UNION_MEMBERS: usize = 8;
 /// All candidate lists together have no more cells.
 pub const CANDIDATE_CELLS: usize = 2048;
+/// The most disjunctions.
+pub const DISJUNCTIONS: usize = 128;
+/// All disjunctions together have no more literals.
+pub const LITERALS: usize = 1024;
+/// The most nodes of condition trees.
+pub const CONDITION_NODES: usize = 128;
+/// The conditions of all clauses together have no more literals.
+pub const CLAUSE_LITERALS: usize = 1024;
+/// All clauses together have no more distinct names, each clause counted for itself.
+pub const CLAUSE_NAMES: usize = 1024;
 /// The most terms of a rewritten condition.
 pub const TERMS: usize = 64;
+/// The most version sets that a term has.
+pub const TERM_VERSION_SETS: usize = 16;
 /// All terms of a rewritten condition together have no more version sets.
-pub const TERM_CELLS: usize = TERMS * 16;
+pub const TERM_CELLS: usize = TERMS * TERM_VERSION_SETS;
+/// The most entries that a trail has.
+pub const TRAIL_ENTRIES: usize = 512;
+/// The highest level; the lowest of an assignment is 1.
+pub const LAST_LEVEL: u32 = 2_147_483_647;
 
 /// Why a call was refused. But for a dead clause, a refused call has changed nothing.
 #[derive(Clone, Copy, Debug, PartialEq, Eq)]
@@ -203,13 +227,13 @@ pub enum Node {
     },
 }
 
-/// A conjunct of a disjunct: the candidates of a version set, or none of them.
+/// A conjunct of a disjunct. Either kind holds if one of its candidates is true.
 #[derive(Clone, Debug, PartialEq, Eq)]
 pub enum Conjunct {
-    /// Holds if one of these variables is true.
+    /// The candidates that match a version set, where some of the name's do not.
     Solvables(Vec<u32>),
-    /// No candidates: it does not hold.
-    Empty,
+    /// All candidates of a name: every one matches, so the complement is empty.
+    Empty(Vec<u32>),
 }
 
 /// "Settle this next."
@@ -274,6 +298,10 @@ fn done(number: u32) -> Result<(), Refusal> {
     }
 }
 
+// Each `unsafe` below is one call of the library. It is sound because every pointer is valid for the length beside it (an output's for
+// the words that the header names) and lives through the call, and no list that a call writes overlaps another: the words are the
+// store's own, lent by `&mut self` where the call may change them, and the lists are the caller's borrows or made here. Nothing is
+// asked of the words or the numbers, since every call answers on any of them.
 impl Store {
     /// How many words a store needs.
     pub fn size() -> usize {
@@ -287,7 +315,7 @@ impl Store {
         store
     }
 
-    /// Any words as a store; every call on words of unsound shape is refused.
+    /// Any words as a store; every call but `make_fresh` refuses words of unsound shape.
     pub fn from_words(words: Vec<u32>) -> Store {
         Store { words }
     }
@@ -371,7 +399,7 @@ impl Store {
         done(unsafe { raw::imb_mark_hot(s, n, name) })
     }
 
-    /// Gives a name an activity.
+    /// Gives a name an activity. In standard mode mark the name hot first: a cold one above zero is refused.
     pub fn set_activity(&mut self, name: u32, activity: f32) -> Result<(), Refusal> {
         let (s, n) = self.lent();
         done(unsafe { raw::imb_set_activity(s, n, name, activity) })
@@ -439,9 +467,10 @@ impl Store {
         Ok(out[0] as usize)
     }
 
-    /// The whole trail, into a list of `room` decisions; a shorter one is refused.
+    /// The whole trail, into a list of `room` decisions; a shorter one is refused. No answer needs more than [`TRAIL_ENTRIES`], so no
+    /// more are lent.
     pub fn trail_in(&self, room: usize) -> Result<Vec<Decision>, Refusal> {
-        let mut list = vec![Decision::default(); room];
+        let mut list = vec![Decision::default(); room.min(TRAIL_ENTRIES)];
         let mut out = [0];
         let (s, n) = self.read();
         done(unsafe { raw::imb_copy_trail(s, n, list.as_mut_ptr(), list.len(), out.as_mut_ptr()) })?;
@@ -468,10 +497,11 @@ impl Store {
         Ok(parted(&lengths[..out[0] as usize], &cells))
     }
 
-    /// The terms of a rewritten condition, in a list of `terms` lengths and one of `cells` version sets.
+    /// The terms of a rewritten condition, in a list of `terms` lengths and one of `cells` version sets. No answer needs more than
+    /// [`TERMS`] and [`TERM_CELLS`], so no more are lent.
     pub fn rewrite_in(&self, node: u32, terms: usize, cells: usize) -> Result<Vec<Vec<u32>>, Refusal> {
-        let mut lengths = vec![0; terms];
-        let mut sets = vec![0; cells];
+        let mut lengths = vec![0; terms.min(TERMS)];
+        let mut sets = vec![0; cells.min(TERM_CELLS)];
         let mut out = [0; 2];
         let (s, n) = self.read();
         done(unsafe {
@@ -491,7 +521,7 @@ impl Store {
         for conjunct in conjuncts {
             let (kind, own): (u32, &[u32]) = match conjunct {
                 Conjunct::Solvables(own) => (0, own),
-                Conjunct::Empty => (1, &[]),
+                Conjunct::Empty(own) => (1, own),
             };
             kinds.push(kind);
             starts.push(cells.len() as u32);
@@ -572,28 +602,133 @@ fn parted(lengths: &[u32], cells: &[u32]) -> Vec<Vec<u32>> {
 #[cfg(test)]
 mod tests {
     use super::*;
+    use std::collections::BTreeMap;
+    use std::ptr;
 
-    /// The number that the C header gives a name.
-    fn in_header(name: &str) -> usize {
-        let header = include_str!("../../include/imbolaverk.h");
-        let line = header.lines().find(|line| line.starts_with(&format!("#define {name} "))).expect("the header has the name");
-        line.split_whitespace().nth(2).expect("a number").parse().expect("a number")
+    const HEADER: &str = include_str!("../../include/imbolaverk.h");
+
+    /// A number as the header writes it.
+    fn number(word: &str) -> Option<usize> {
+        word.trim_start_matches("UINT32_C(").trim_end_matches(')').parse().ok()
+    }
+
+    /// The header's `#define IMB_.. number` lines.
+    fn defined() -> BTreeMap<&'static str, usize> {
+        let word = |line: &'static str, i| line.split_whitespace().nth(i);
+        HEADER
+            .lines()
+            .filter_map(|line| Some((line.strip_prefix("#define ")?, number(word(line, 2)?)?)))
+            .map(|(rest, size)| (word(rest, 0).expect("a name"), size))
+            .collect()
+    }
+
+    /// The header's `IMB_.. = number` of an answer.
+    fn answer(name: &str) -> u32 {
+        let line = HEADER.lines().find_map(|line| line.trim().strip_prefix(name)?.strip_prefix(" = ")).expect("an answer");
+        let digits: String = line.chars().take_while(char::is_ascii_digit).collect();
+        digits.parse().expect("a number")
     }
 
     #[test]
     fn the_header_has_the_same_sizes() {
-        assert_eq!(in_header("IMB_WORDS"), Store::size());
-        assert_eq!(in_header("IMB_TRAIL_ENTRIES"), TRAIL_ENTRIES);
-        assert_eq!(in_header("IMB_UNION_MEMBERS"), UNION_MEMBERS);
-        assert_eq!(in_header("IMB_CANDIDATE_CELLS"), CANDIDATE_CELLS);
-        assert_eq!(in_header("IMB_TERMS"), TERMS);
-        assert_eq!(in_header("IMB_TERMS") * in_header("IMB_TERM_VERSION_SETS"), TERM_CELLS);
+        let sizes = [
+            ("IMB_NO_CONDITION", Condition::None.word() as usize),
+            ("IMB_WORDS", Store::size()),
+            ("IMB_VARIABLES", VARIABLES),
+            ("IMB_CLAUSES", CLAUSES),
+            ("IMB_NAMES", NAMES),
+            ("IMB_VERSION_SETS", VERSION_SETS),
+            ("IMB_UNIONS", UNIONS),
+            ("IMB_UNION_MEMBERS", UNION_MEMBERS),
+            ("IMB_CANDIDATE_CELLS", CANDIDATE_CELLS),
+            ("IMB_DISJUNCTIONS", DISJUNCTIONS),
+            ("IMB_LITERALS", LITERALS),
+            ("IMB_CONDITION_NODES", CONDITION_NODES),
+            ("IMB_CLAUSE_LITERALS", CLAUSE_LITERALS),
+            ("IMB_CLAUSE_NAMES", CLAUSE_NAMES),
+            ("IMB_TERMS", TERMS),
+            ("IMB_TERM_VERSION_SETS", TERM_VERSION_SETS),
+            ("IMB_TRAIL_ENTRIES", TRAIL_ENTRIES),
+            ("IMB_LAST_LEVEL", LAST_LEVEL as usize),
+        ];
+        assert_eq!(defined(), BTreeMap::from(sizes));
     }
 
     #[test]
-    fn refusals_keep_their_numbers() {
-        for number in (1..=12).filter(|&number| number != 8) {
-            assert_eq!(Refusal::of(number).number(), number);
+    fn refusals_have_the_numbers_of_the_header() {
+        let named = [
+            ("IMB_BAD_STORE", Refusal::BadStore),
+            ("IMB_BAD_ID", Refusal::BadId),
+            ("IMB_NO_ROOM", Refusal::NoRoom),
+            ("IMB_BAD_LEVEL", Refusal::BadLevel),
+            ("IMB_OTHER_VALUE", Refusal::OtherValue),
+            ("IMB_NO_STOP", Refusal::NoStop),
+            ("IMB_UNSYNCED", Refusal::Unsynced),
+            ("IMB_DEAD_CLAUSE", Refusal::DeadClause { clause: 0, dropped: 0 }),
+            ("IMB_BAD_ACTIVITY", Refusal::BadActivity),
+            ("IMB_COLD_ACTIVITY", Refusal::ColdActivity),
+            ("IMB_MALFORMED", Refusal::Malformed),
+            ("IMB_LOADED_TWICE", Refusal::LoadedTwice),
+        ];
+        for (name, refusal) in named {
+            assert_eq!(refusal.number(), answer(name), "{name}");
+            if answer(name) != 8 {
+                assert_eq!(Refusal::of(answer(name)), refusal, "{name}");
+            }
         }
+    }
+
+    #[test]
+    fn settings_names_and_the_trail_are_told() -> Result<(), Refusal> {
+        let mut store = Store::new();
+        assert!(store.is_standard()?);
+        store.mark_hot(3)?;
+        store.set_activity(3, 2.5)?;
+        store.set_mode(false)?;
+        store.assign(7, true, 1, 0)?;
+        assert!(!store.is_standard()?);
+        assert_eq!(store.name(3)?, (2.5, true));
+        assert_eq!(store.name(4)?, (0.0, false));
+        assert_eq!(store.name(128), Err(Refusal::BadId));
+        assert_eq!(store.trail_length()?, 1);
+        assert!(store.trail()?[0].is_true());
+        Ok(())
+    }
+
+    #[test]
+    fn the_pointer_of_an_empty_list_may_be_null() -> Result<(), Refusal> {
+        let (read, written, trail) = (ptr::null(), ptr::null_mut(), ptr::null_mut());
+        let mut out = [9; 2];
+        let o = out.as_mut_ptr();
+        let mut store = Store::new();
+        store.load_version_set(0, 0)?;
+        store.load_condition(0, Node::Leaf { version_set: 0 })?;
+        let (s, n) = store.lent();
+        unsafe {
+            assert_eq!(raw::imb_load_union(s, n, 0, read, 0), 0);
+            assert_eq!(raw::imb_load_candidates(s, n, 1, 0, read, 0, read, 0), 0);
+            assert_eq!(raw::imb_load_candidates(s, n, 0, 0, [0].as_ptr(), 1, read, 0), 0);
+            assert_eq!(raw::imb_load_disjunction(s, n, 0, read, 0, read, 0), 0);
+            assert_eq!(raw::imb_copy_candidates(s, n, 1, 0, written, 0, written, 0, o), 0);
+            assert_eq!(raw::imb_copy_trail(s, n, trail, 0, o), 0);
+            assert_eq!(raw::imb_rewrite(s, n, 0, written, 0, written, 0, o), 3);
+            assert_eq!(raw::imb_disjunct_holds(s, n, read, 0, read, 0, read, 0, read, 0, o), 0);
+            assert_eq!(raw::imb_fresh(written, 0), 1);
+        }
+        assert_eq!(out, [1, 0]);
+        Ok(())
+    }
+
+    #[test]
+    fn more_room_than_needed_changes_no_answer() -> Result<(), Refusal> {
+        let mut store = Store::new();
+        store.load_version_set(0, 0)?;
+        store.load_condition(0, Node::Leaf { version_set: 0 })?;
+        store.assign(0, true, 1, 0)?;
+        assert_eq!(store.trail_in(usize::MAX), store.trail());
+        assert_eq!(store.trail_in(0), Err(Refusal::NoRoom));
+        assert_eq!(store.rewrite_in(0, usize::MAX, usize::MAX), Ok(vec![vec![0]]));
+        assert_eq!(store.rewrite_in(0, 0, usize::MAX), Err(Refusal::NoRoom));
+        Ok(())
     }
 }

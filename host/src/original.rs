@@ -1,6 +1,6 @@
 //! The original crate, built unchanged and driven by scripts in a process of its own.
 
-use std::io::{Read, Write};
+use std::io::{ErrorKind, Read, Write};
 use std::path::PathBuf;
 use std::process::{Command, Stdio};
 
@@ -12,7 +12,7 @@ pub fn driver() -> PathBuf {
     }
 }
 
-/// Runs the original on a script, with these words; answers what it printed.
+/// Runs the original on a script, with these words; answers what it printed, which is too little where it ended early.
 pub fn run(words: &[&str], script: &str) -> std::io::Result<String> {
     let mut child =
         Command::new(driver()).args(words).stdin(Stdio::piped()).stdout(Stdio::piped()).stderr(Stdio::null()).spawn()?;
@@ -22,9 +22,12 @@ pub fn run(words: &[&str], script: &str) -> std::io::Result<String> {
     let writer = std::thread::spawn(move || input.write_all(text.as_bytes()));
     let mut said = String::new();
     output.read_to_string(&mut said)?;
-    writer.join().expect("the writing thread ends")?;
+    let written = writer.join().expect("the writing thread ends");
     child.wait()?;
-    Ok(said)
+    match written {
+        Err(error) if error.kind() != ErrorKind::BrokenPipe => Err(error),
+        _ => Ok(said),
+    }
 }
 
 /// Whether the original gets a line that the library answered so: a refused call changed nothing, and the original knows no refusal

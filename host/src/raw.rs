@@ -14,6 +14,13 @@ pub struct Decision {
     pub clause: u32,
 }
 
+impl Decision {
+    /// Whether the variable was assigned true.
+    pub fn is_true(&self) -> bool {
+        self.value == 1
+    }
+}
+
 /// Declares calls on a store, `mut` where a call may change it and `const` where it cannot: each takes the store's words and their
 /// number first, and answers 0 or the number of its refusal.
 macro_rules! calls {

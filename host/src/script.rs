@@ -127,7 +127,7 @@ impl Call {
                     .split(|word| *word == ";")
                     .map(|conjunct| match conjunct {
                         ["0", cells @ ..] => Some(Conjunct::Solvables(numbers(cells)?)),
-                        ["1", ..] => Some(Conjunct::Empty),
+                        ["1", cells @ ..] => Some(Conjunct::Empty(numbers(cells)?)),
                         _ => None,
                     })
                     .collect::<Option<_>>()?,

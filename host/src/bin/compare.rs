@@ -12,6 +12,9 @@ use std::time::Instant;
 /// Calls sent to the original in one go.
 const BATCH: usize = 200_000;
 
+/// From so many calls on a run must have met what it is for.
+const ENOUGH: u64 = 400_000;
+
 #[derive(Default)]
 struct Tally {
     scripts: u64,
@@ -50,10 +53,23 @@ fn main() {
     for (answer, count) in &tally.answers {
         println!("  {answer}: {count}");
     }
+    if wanted >= ENOUGH {
+        tally.must_tell();
+    }
     println!(
         "no difference in {} calls ({} of them compared, the rest refused) over {} scripts",
         tally.calls, tally.compared, tally.scripts
     );
+}
+
+impl Tally {
+    /// Stops a run that has compared too little to say anything.
+    fn must_tell(&self) {
+        assert!(2 * self.compared > self.calls, "only {} of {} calls were compared", self.compared, self.calls);
+        for answer in ["choose", "nothing", "refused 8"] {
+            assert!(self.answers.contains_key(answer), "the answer \"{answer}\" never came");
+        }
+    }
 }
 
 /// Every script of a few calls over two clauses that share a requirement and a condition.

@@ -1,5 +1,5 @@
-//! Calls every entry point on any bytes: random words, damaged stores, short slices, wild arguments. Each call must answer, and a
-//! refusal other than 8 must leave every word and every lent output as it was.
+//! Calls every entry point on any bytes: random words, damaged stores, short slices, wild arguments, NULL for empty lists. Each call
+//! must answer, and a refusal other than 8 must leave every word and every lent output as it was.
 //!
 //!     hostile [CALLS]      so many calls (default 10,000,000)
 
@@ -12,8 +12,14 @@ use std::time::{Duration, Instant};
 
 static MADE: AtomicU64 = AtomicU64::new(0);
 
+/// How many empty lists were lent as NULL.
+static NULLS: AtomicU64 = AtomicU64::new(0);
+
 /// Words behind the lent slice, which no call may touch.
 const GUARD: usize = 64;
+
+/// From so many calls on every answer must have come.
+const ENOUGH: u64 = 400_000;
 
 fn main() {
     let wanted: u64 = std::env::args().nth(1).map_or(10_000_000, |word| word.parse().expect("CALLS is a number"));
@@ -42,7 +48,13 @@ fn main() {
     for (number, count) in answers.iter().enumerate() {
         println!("  answer {number}: {count}");
     }
+    let nulls = NULLS.load(Ordering::Relaxed);
+    if wanted >= ENOUGH {
+        assert!(answers.iter().all(|&count| count > 0), "an answer from 0 to 12 never came: {answers:?}");
+        assert!(nulls > 0, "no empty list was lent as NULL");
+    }
     println!("{wanted} calls, each answered; no refusal changed a word, no call touched a word beyond its store");
+    println!("an empty list was lent as NULL {nulls} times");
 }
 
 /// Stops the run if a call does not answer.
@@ -93,6 +105,7 @@ fn fill(dice: &mut Dice, words: &mut [u32], stores: &[Store]) -> usize {
         }
     }
     match dice.below(16) {
+        0 if dice.often(50) => 0,
         0 => dice.below(size as u32) as usize,
         1 => size - 1,
         2 => size + GUARD / 2,
@@ -136,11 +149,20 @@ impl Lists {
             list.clear();
             list.extend((0..length).map(|_| small(dice)));
         }
-        let length = if dice.often(90) { dice.below(80) } else { dice.below(1200) };
+        let length = match dice.below(10) {
+            0 => 0,
+            1 => dice.below(1200),
+            _ => dice.below(80),
+        };
         self.d.clear();
         self.d.extend((0..length).map(|_| small(dice)));
+        if length == 0 && dice.often(50) {
+            // So that the lengths add up to no cells.
+            [&mut self.a, &mut self.b, &mut self.c].into_iter().for_each(|list| list.fill(0));
+        }
+        let length = if dice.often(10) { 0 } else { dice.below(600) };
         self.trail.clear();
-        self.trail.resize(dice.below(600) as usize, Decision { variable: 7, value: 7, clause: 7 });
+        self.trail.resize(length as usize, Decision { variable: 7, value: 7, clause: 7 });
         self.out.iter_mut().for_each(|word| *word = dice.roll() as u32);
     }
 }
@@ -196,9 +218,19 @@ fn attempt(dice: &mut Dice, words: &mut [u32], length: usize, lists: &mut Lists)
     number
 }
 
+/// The pointer that a list is lent by; an empty one's is NULL if so wanted.
+fn lent<T>(null: bool, list: &mut [T]) -> *mut T {
+    if null && list.is_empty() {
+        NULLS.fetch_add(1, Ordering::Relaxed);
+        return std::ptr::null_mut();
+    }
+    list.as_mut_ptr()
+}
+
 /// Makes the call; answers its number, and whether it only reads the store.
 fn made(kind: u32, dice: &mut Dice, words: &mut [u32], n: usize, lists: &mut Lists) -> (u32, bool) {
-    let s = words.as_mut_ptr();
+    let null = dice.often(50);
+    let s = lent(null, &mut words[..n]);
     let mut any = || small(dice);
     let (p, q, r, t, u) = (any(), any(), any(), any(), any());
     let (a, b, c, d) = (&mut lists.a, &mut lists.b, &mut lists.c, &mut lists.d);
@@ -207,9 +239,9 @@ fn made(kind: u32, dice: &mut Dice, words: &mut [u32], n: usize, lists: &mut Lis
         match kind {
             0 if p < 3 => (raw::imb_fresh(s, n), false),
             0 | 1 => (raw::imb_load_version_set(s, n, p, q), false),
-            2 => (raw::imb_load_union(s, n, p, a.as_ptr(), a.len()), false),
-            3 => (raw::imb_load_candidates(s, n, few(p), q, a.as_ptr(), a.len(), d.as_ptr(), d.len()), false),
-            4 => (raw::imb_load_disjunction(s, n, p, a.as_ptr(), a.len(), b.as_ptr(), b.len()), false),
+            2 => (raw::imb_load_union(s, n, p, lent(null, a), a.len()), false),
+            3 => (raw::imb_load_candidates(s, n, few(p), q, lent(null, a), a.len(), lent(null, d), d.len()), false),
+            4 => (raw::imb_load_disjunction(s, n, p, lent(null, a), a.len(), lent(null, b), b.len()), false),
             5 => (raw::imb_load_condition(s, n, p, few(q), r, t), false),
             6 => (raw::imb_register(s, n, p, few(q), r, if t < 5 { u32::MAX } else { t }, u), false),
             7 => (raw::imb_mark_hot(s, n, p), false),
@@ -222,22 +254,22 @@ fn made(kind: u32, dice: &mut Dice, words: &mut [u32], n: usize, lists: &mut Lis
             15 => (raw::imb_value_of(s, n, p, out), true),
             16 => (raw::imb_clause_of(s, n, p, out), true),
             17 => (raw::imb_trail_length(s, n, out), true),
-            18 => (raw::imb_copy_trail(s, n, lists.trail.as_mut_ptr(), lists.trail.len(), out), true),
-            19 => (raw::imb_copy_candidates(s, n, few(p), q, a.as_mut_ptr(), a.len(), d.as_mut_ptr(), d.len(), out), true),
+            18 => (raw::imb_copy_trail(s, n, lent(null, &mut lists.trail), lists.trail.len(), out), true),
+            19 => (raw::imb_copy_candidates(s, n, few(p), q, lent(null, a), a.len(), lent(null, d), d.len(), out), true),
             20 => (raw::imb_sync(s, n, out), false),
             21 => (raw::imb_propose(s, n, out), false),
-            22 => (raw::imb_rewrite(s, n, p, a.as_mut_ptr(), a.len(), d.as_mut_ptr(), d.len(), out), true),
+            22 => (raw::imb_rewrite(s, n, p, lent(null, a), a.len(), lent(null, d), d.len(), out), true),
             23 => {
                 let number = raw::imb_disjunct_holds(
                     s,
                     n,
-                    a.as_ptr(),
+                    lent(null, a),
                     a.len(),
-                    b.as_ptr(),
+                    lent(null, b),
                     b.len(),
-                    c.as_ptr(),
+                    lent(null, c),
                     c.len(),
-                    d.as_ptr(),
+                    lent(null, d),
                     d.len(),
                     out,
                 );
