@@ -1,10 +1,10 @@
 -- THE STORED TOTALS ARE THE SUMS over registered clauses that document 01 limits, on every store that calls reach: registering adds what
 -- the clause has, and no other call changes a summand. Assumes nothing.
 use mathlib.Core.Bool.{Bool, true, false, cond, not, _&&_}
-use mathlib.Core.List.{List, [], _∷_}
+use mathlib.Core.List.{List, []}
 use mathlib.Core.Logic.{_≢_}
 use mathlib.Core.Path.{_≡_, refl, sym, ap, subst, _∙_}
-use Prim.Native.Nat.{ℕ, _+_, _-_, _≤_, _<_}
+use Prim.Native.Nat.{ℕ, _+_, _≤_, _<_}
 use native.Mathlib.Omega.{arith}
 use borrow.Author.Tests.{eqb-false, le-leb, not-false, not-true}
 use lib.Dec.{T, eqb, ltb}
