@@ -34,6 +34,7 @@ module _ (w : List ℕ) (h : Sound w) (n : ℕ) (l : n ≤ entries w) where
       let e = outside w c entriesRegion t in
       entry-by (leftBy w c) w k (at-same trailVariables entriesRegion (leftBy w c) w tt e k) (at-same trailValues entriesRegion (leftBy w c) w tt e k)
 
+  -- a pop writes no entry
   popped-stay : (s : List ℕ) → Sound s → Stay s → Stay (popped s)
   popped-stay s g stay m k q = popped-entries s g k ∙ stay (omega (arith, popped-count s (entered s g), m)) k q
 

@@ -114,6 +114,7 @@ module _ (w : List ℕ) (r : ReachedWords w) (tried : List Call) (t : TakesBack 
       let six = again-six w (syncStore s) g (call-genuine s sync h) (synced-again w s (h .sound) tried-again) in
       sym (demand3 w (syncStore s) r (reached-on s (reached-on w r tried) (sync ∷ [])) x (synced-now s (h .sound)) six)
 
+-- one entry more than n, any asking, and an undo-last: that is taken back to n
 asked-back : (n : ℕ) (s : List ℕ) (asked : List Call) → Genuine s → Asks asked → 1 ≤ n → entries s ≡ n + 1 → TakesBack n s (asked ++ (undo-last ∷ []))
 unfolding undoLastInStore
 asked-back n s [] g t some e =
@@ -126,6 +127,7 @@ asked-back n s (c ∷ cs) g t some e =
     let kept = at-same trailLength entriesRegion (leftBy s c) s tt (outside s c entriesRegion (t .1 .0)) 0 in
     (t .0, (omega (arith, kept, e), asked-back n (leftBy s c) cs (call-genuine s c g) (t .1 .1) some (kept ∙ e)))
 
+-- she accepts a candidate, asks, and takes it back
 module _ (w : List ℕ) (r : ReachedWords w) (some : 1 ≤ entries w) (variable value level clause : ℕ) (new : assignOut w variable value level ≡ New) where
   accepted-count : entries (assignStore w variable value level clause) ≡ entries w + 1
   accepted-count =
