@@ -14,7 +14,7 @@ use Rattle.conditions.specs.Disjunct.{disjunctIn, disjunctOut, holdsNumber}
 use Rattle.conditions.specs.Rewrite.{rewriteIn, rewriteOut, rewrittenNumber}
 use Rattle.promises.proofs.Calling.{reached-genuine, reached-sound}
 use Rattle.imbolaverk.specs.Calls.{Call, fresh, load-version-set, load-union, load-candidates, load-disjunction, load-condition, register, mark-hot, set-activity, set-mode, assign, undo-last, undo-until, next-unpropagated, sync, propose, value-of, clause-of, trail-length, copy-trail, copy-candidates, rewrite, disjunct-holds, settings, name-of, ReachedWords, numberOf, refusals}
-use Rattle.proposal.specs.Propose.{answer, proposalIn, proposalNumber, proposalOut, told, unsynced}
+use Rattle.proposal.specs.Propose.{proposalIn, proposalNumber, proposalOut, told, unsynced}
 use Rattle.requirement.specs.Copy.{copiedNumber, copyIn, copyOut}
 use Rattle.requirement.specs.Load.{loadIn, loadOut, loadedNumber as tableNumber}
 use Rattle.imbolaverk.specs.CopyTrail.{copyOut as trailOut, fitted}
