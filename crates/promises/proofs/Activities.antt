@@ -1,21 +1,26 @@
--- THE ACTIVITY THAT A PROPOSAL CHOOSES IS THE STORED ONE OF A NAME, and its bits leave `imb_propose` as they are stored. Assumes nothing.
+-- THE ACTIVITY THAT A PROPOSAL CHOOSES IS THE STORED ONE OF A NAME, and its bits leave `imb_propose` as they are stored; so what it writes is
+-- its row of the table of calls. Assumes nothing.
 use mathlib.Core.Bool.{Bool, true, false, cond}
 use mathlib.Core.List.{List, [], _∷_}
-use mathlib.Core.Path.{_≡_, refl, ap, _∙_}
+use mathlib.Core.Path.{_≡_, refl, sym, ap, _∙_}
 use Prim.Native.Nat.{ℕ, _≤_, _<_}
 use native.Mathlib.Omega.{arith}
 use borrow.Author.Tests.{lt-ltb}
 use lib.Dec.{eqb}
-use lib.Ieee.{Float, binary32, ofBits}
-use lib.ListN.{getD, length}
+use lib.Ieee.{Float, binary32, ofBits, toBits}
+use lib.ListN.{drop, getD, length}
+use lib.Seq.{drop-length}
 use Rattle.evaluate.specs.Standing.{envOf, cacheBy, cacheOf}
 use Rattle.evaluate.specs.View.{assigned, listsAt}
 use Rattle.examine.proofs.Small.{Small, evaluate-small}
 use Rattle.examine.proofs.Stand.{Beside, beside-dropped, beside-filled, beside-self}
 use Rattle.examine.specs.Cache.{clauseKey, seenAt, wordOperations}
 use Rattle.imbolaverk.proofs.Outputs.{written-is}
+use Rattle.imbolaverk.specs.Calls.{propose, valuesOf}
 use Rattle.imbolaverk.specs.Proposed.{bitsOf, proposed}
-use Rattle.proposal.specs.Propose.{answer, proposalIn, proposalOut, told, unsynced}
+use Rattle.imbolaverk.specs.Written.{written}
+use Rattle.promises.specs.Told.{placed, placesOf}
+use Rattle.proposal.specs.Propose.{answer, proposalIn, proposalOut, proposalValues, told, unsynced}
 use Rattle.rules.proofs.Chosen.{chosen-has}
 use Rattle.rules.specs.Queue.{seen, stateIn}
 use Rattle.rules.specs.Walk.{active, evaluate, seenAs}
@@ -27,7 +32,8 @@ use Rattle.store.specs.Area.{at}
 use Rattle.store.specs.Layout.{activities, cacheCandidates, cacheCounts, cacheNames, cacheStates}
 use Rattle.store.specs.Limits.{cellRoom, lastActivity, lastName, lastVariable, names}
 use Rattle.store.specs.Shape.{Sound, soundShape}
-use Rattle.proposal.specs.declared.Proposal.the-variants.{Choose as Chosen, Refused}
+use Rattle.proposal.specs.declared.Proposal.{Proposal}
+use Rattle.proposal.specs.declared.Proposal.the-variants.{Choose as Chosen, Nothing as NoneOpen, Dead as DeadAt, Refused}
 use Rattle.rules.specs.declared.Best.{Best}
 use Rattle.rules.specs.declared.Cache.the-variants.{Dirty, Known}
 use Rattle.rules.specs.declared.Out.{Out}
@@ -107,6 +113,15 @@ module _ (w : List ℕ) (candidate parent clause : ℕ) (activity : Float) (coun
       go true true o h q e = absurd (true-false (cc))
       go false u o h q e = absurd (true-false (cc))
 
+  -- the bits that `imb_propose` hands out
+  bits-out : bitsOf (admitted activity) ≡ at activities (float-stored .0) w
+  bits-out =
+      let stored = float-stored in
+      ap (λ (x : Float). bitsOf (admitted x)) (stored .2) ∙ bits-come-back (at activities (stored .0) w) (stored .3)
+
+  abbrev row : ℕ → List ℕ → List ℕ
+  row bits rest = 1 ∷ candidate ∷ parent ∷ clause ∷ bits ∷ count ∷ dropped ∷ rest
+
   -- THE BITS ARE THOSE STORED: whenever a proposal chooses, on any words, there is a name whose stored activity the answer carries as a
   -- float, and `imb_propose` hands out as bits
   pub bits-are-stored : (old : List ℕ) → length old ≡ 7 →
@@ -114,7 +129,31 @@ module _ (w : List ℕ) (candidate parent clause : ℕ) (activity : Float) (coun
       × (getD (proposed (proposalOut w) old) 4 0 ≡ at activities name w)
   bits-are-stored old seven =
       let stored = float-stored in
-      let bits : bitsOf (admitted activity) ≡ at activities (stored .0) w =
-      ap (λ (x : Float). bitsOf (admitted x)) (stored .2) ∙ bits-come-back (at activities (stored .0) w) (stored .3) in
-      let values : List ℕ = 1 ∷ candidate ∷ parent ∷ clause ∷ bitsOf (admitted activity) ∷ count ∷ dropped ∷ [] in
-      (stored .0, stored .1, stored .2, rw is (ap (λ (out : List ℕ). getD out 4 0) (written-is values old (omega arith)) ∙ bits))
+      let values : List ℕ = row (bitsOf (admitted activity)) [] in
+      (stored .0, stored .1, stored .2, rw is (ap (λ (out : List ℕ). getD out 4 0) (written-is values old (omega arith)) ∙ bits-out))
+
+  -- they are the float's own
+  bits-same : bitsOf (admitted activity) ≡ toBits binary32 activity
+  bits-same =
+      let stored = float-stored in
+      let bits = at activities (stored .0) w in
+      bits-out ∙ sym (ap (toBits binary32) (stored .2) ∙ back-bits bits (omega (arith, stored .3)))
+
+  -- WHAT A CHOICE LEAVES IN THE LENT OUTPUT IS ITS ROW of the table of calls, and nothing of what was there
+  pub chosen-values : (old : List ℕ) → length old ≡ 7 → proposed (proposalOut w) old ≡ valuesOf w propose
+  chosen-values old seven =
+      let bits = bitsOf (admitted activity) in
+      let rest : drop 7 old ≡ [] = ap (λ (n : ℕ). drop n old) (sym seven) ∙ drop-length old in
+      rw is (written-is (row bits []) old (omega arith) ∙ ap (row bits) rest ∙ ap (λ (b : ℕ). row b []) bits-same)
+
+-- WHAT A PROPOSAL LEAVES IN ITS LENT OUTPUT, on any words, whatever it answers: the values of its row, each at its place, every other word kept
+pub proposal-values : (w old : List ℕ) → proposed (proposalOut w) old ≡ placed (placesOf (proposalOut w)) (valuesOf w propose) old
+proposal-values w old = go (proposalOut w) refl
+  where
+    go : (p : Proposal) → proposalOut w ≡ p → proposed p old ≡ placed (placesOf p) (proposalValues p) old
+    go (Chosen candidate parent clause activity count dropped) e =
+        ap (λ (bits : ℕ). written (1 ∷ candidate ∷ parent ∷ clause ∷ bits ∷ count ∷ dropped ∷ []) old)
+        (bits-same w candidate parent clause activity count dropped e)
+    go (NoneOpen dropped) e = refl
+    go (DeadAt clause dropped) e = refl
+    go (Refused n) e = refl

@@ -2,8 +2,9 @@
 -- Assumes nothing.
 use mathlib.Core.Bool.{true}
 use mathlib.Core.List.{List, [], _∷_, _++_}
-use mathlib.Core.Path.{_≡_, refl, ap, _∙_}
-use Prim.Native.Nat.{ℕ}
+use mathlib.Core.Path.{_≡_, refl, sym, ap, subst, _∙_}
+use Prim.Native.Nat.{ℕ, _≤_}
+use lib.ListN.{length}
 use Rattle.promises.proofs.Asking.{propose-genuine, sync-genuine}
 use Rattle.promises.proofs.CandidateLoading.{load-candidates-genuine}
 use Rattle.promises.proofs.Genuine.{Genuine}
@@ -15,6 +16,7 @@ use Rattle.promises.proofs.Trailing.{assign-genuine, next-genuine, undo
 use Rattle.imbolaverk.specs.Calls.{Call, fresh, load-version-set, load-union, load-candidates, load-disjunction, load-condition, register, mark-hot, set-activity, set-mode, assign, undo-last, undo-until, next-unpropagated, sync, propose, value-of, clause-of, trail-length, copy-trail, copy-candidates, rewrite, disjunct-holds, settings, name-of, ReachedWords, leftBy, run}
 use Rattle.store.proofs.Soundness.{sound-shape}
 use Rattle.store.specs.Fresh.{freshStore}
+use Rattle.store.specs.Layout.{words}
 use Rattle.store.specs.Shape.{soundShape}
 
 -- EVERY CALL, refused or not
@@ -45,15 +47,26 @@ call-genuine w (disjunct-holds kinds starts lengths cells) g = g
 call-genuine w settings g = g
 call-genuine w (name-of name) g = g
 
--- any calls, one after the other
+-- WHAT EVERY CALL KEEPS on genuine words, any calls keep, one after the other
+module _ (P : List ℕ → Type 0) (keeps : (w : List ℕ) (c : Call) → Genuine w → P w → P (leftBy w c)) where
+  run-keeps : (w : List ℕ) (cs : List Call) → Genuine w → P w → P (run w cs)
+  unfolding run
+  run-keeps w [] g p = p
+  run-keeps w (c ∷ cs) g p = run-keeps (leftBy w c) cs (call-genuine w c g) (keeps w c g p)
+
 pub run-genuine : (w : List ℕ) (cs : List Call) → Genuine w → Genuine (run w cs)
-unfolding run
-run-genuine w [] g = g
-run-genuine w (c ∷ cs) g = run-genuine (leftBy w c) cs (call-genuine w c g)
+run-genuine w cs g = run-keeps Genuine (λ s c h _. call-genuine s c h) w cs g g
+
+-- and what a fresh store has too, every reached store has
+pub reached-keeps : (P : List ℕ → Type 0) → ((f : List ℕ) → words ≤ length f → P (freshStore f)) →
+    ((w : List ℕ) (c : Call) → Genuine w → P w → P (leftBy w c)) → (w : List ℕ) → ReachedWords w → P w
+reached-keeps P begins keeps w r =
+    let f = r .found in
+    subst P (sym (r .is)) (run-keeps P keeps (freshStore f) (r .calls) (fresh-genuine f (r .long)) (begins f (r .long)))
 
 -- EVERY REACHED STORE IS GENUINE
 pub reached-genuine : (w : List ℕ) → ReachedWords w → Genuine w
-reached-genuine w r = rw (r .is) (run-genuine (freshStore (r .found)) (r .calls) (fresh-genuine (r .found) (r .long)))
+reached-genuine = reached-keeps Genuine fresh-genuine (λ w c g _. call-genuine w c g)
 
 -- a store reached by more calls is reached
 run-more : (w : List ℕ) (cs ds : List Call) → run (run w cs) ds ≡ run w (cs ++ ds)

@@ -1,39 +1,31 @@
--- THE CLAUSES STAY IN EVERY CALL but `fresh` and `register`: a clause's condition keeps its literals whatever is loaded. Assumes nothing.
+-- WHICH CALLS KEEP THE CLAUSES: all but `fresh` and `register`. Most write neither clauses nor tables; of what is loaded each clause's
+-- condition keeps its literals. Assumes nothing.
 use mathlib.Core.Bool.{cond}
 use mathlib.Core.List.{List}
 use mathlib.Core.Path.{_≡_, refl, ap, _∙_}
 use Prim.Native.Nat.{ℕ}
-use lib.Dec.{T}
-use lib.Ieee.{Float, binary32, fits}
 use Rattle.evaluate.proofs.Frames.{clause-same, clauses-same, literals-same}
 use Rattle.evaluate.specs.Standing.{ofClause}
 use Rattle.evaluate.specs.View.{literalsAt}
-use Rattle.imbolaverk.specs.Calls.{Call, assign, leftBy, mark-hot, next-unpropagated, propose, set-activity, set-mode, sync, undo-last, undo-until}
+use Rattle.imbolaverk.specs.Calls.{Call, leftBy}
 use Rattle.promises.proofs.Genuine.{Genuine, AllLoaded}
 use Rattle.promises.proofs.Loading.{load-condition-literals, load-disjunction-literals, load-union-literals, load-version-set-literals}
 use Rattle.promises.proofs.Outside.{outside}
 use Rattle.promises.proofs.Stays.{LiteralsStay, at-beside, clause-beside, condition-stays, literals-untouched, literalsRegion}
 use Rattle.promises.specs.Regions.{ApartAll, writesIn}
 use Rattle.promises.specs.Six.{SameClauses}
-use Rattle.proposal.specs.Propose.{proposalStore}
 use Rattle.requirement.proofs.Kept.{load-kept, load-tables}
 use Rattle.requirement.specs.Load.{loadInStore, loadStore}
-use Rattle.settings.specs.Settings.{activityStore, hotStore, modeStore}
 use Rattle.store.proofs.Choice.{cond-either}
 use Rattle.store.specs.Area.{area}
 use Rattle.store.specs.Layout.{clauseConditions, clauseCount, clauseIds, clauseParents, clauseRequirements, clausesRegion, tablesRegion}
 use Rattle.store.specs.Shape.{soundShape}
-use Rattle.sync.specs.Sync.{syncStore}
 use Rattle.tables.proofs.BesideTables.{Beside}
 use Rattle.tables.proofs.Kept.{load-condition-kept, load-disjunction-kept, load-union-kept, load-version-set-kept}
 use Rattle.tables.specs.Condition.{loadConditionInStore, loadConditionStore}
 use Rattle.tables.specs.Disjunction.{loadDisjunctionInStore, loadDisjunctionStore}
 use Rattle.tables.specs.Union.{loadUnionInStore, loadUnionStore}
 use Rattle.tables.specs.VersionSet.{loadVersionSetInStore, loadVersionSetStore}
-use Rattle.trail.specs.Assign.{assignStore}
-use Rattle.trail.specs.Next.{nextStore}
-use Rattle.trail.specs.UndoLast.{undoLastStore}
-use Rattle.trail.specs.UndoUntil.{undoUntilStore}
 
 clauses-self : (w : List ℕ) → SameClauses w w
 clauses-self w = record { counts = refl; parents = λ k. refl; requirements-same = λ k. refl; conditions = λ k. refl; ids = λ k. refl }
@@ -61,7 +53,7 @@ by-literals s w r b l =
     }
 
 -- a call that writes neither
-by-outside : (w : List ℕ) (c : Call) → ApartAll clausesRegion (writesIn c) → ApartAll tablesRegion (writesIn c) → SameClauses (leftBy w c) w
+pub by-outside : (w : List ℕ) (c : Call) → ApartAll clausesRegion (writesIn c) → ApartAll tablesRegion (writesIn c) → SameClauses (leftBy w c) w
 by-outside w c t u = by-regions (leftBy w c) w (outside w c clausesRegion t) (outside w c tablesRegion u)
 
 module _ (w : List ℕ) (g : Genuine w) where
@@ -69,7 +61,7 @@ module _ (w : List ℕ) (g : Genuine w) where
   if-sound : (s : List ℕ) → SameClauses s w → SameClauses (cond (soundShape w) s w) w
   if-sound s c = cond-either (λ u. SameClauses u w) (soundShape w) s w (λ e. c) (λ e. clauses-self w)
 
-  -- what is loaded
+  -- the five that load
   pub load-version-set-clauses : (set name : ℕ) → SameClauses (loadVersionSetStore w set name) w
   unfolding loadVersionSetStore
   load-version-set-clauses set name = if-sound _ (by-literals (loadVersionSetInStore w set name) w (g .all-loaded) (load-version-set-kept w set name) (load-version-set-literals w set name))
@@ -93,33 +85,3 @@ module _ (w : List ℕ) (g : Genuine w) where
   unfolding loadConditionStore
   load-condition-clauses node kind left right =
       if-sound _ (by-literals (loadConditionInStore w node kind left right) w (g .all-loaded) (load-condition-kept w node kind left right) (load-condition-literals w node kind left right))
-
-  -- the settings
-  pub mark-hot-clauses : (name : ℕ) → SameClauses (hotStore w name) w
-  mark-hot-clauses name = by-outside w (mark-hot name) (tt, tt) (tt, tt)
-
-  pub set-activity-clauses : (name : ℕ) (x : Float) → T (fits binary32 x) → SameClauses (activityStore w name x) w
-  set-activity-clauses name x f = by-outside w (set-activity name x f) (tt, tt) (tt, tt)
-
-  pub set-mode-clauses : (m : ℕ) → SameClauses (modeStore w m) w
-  set-mode-clauses m = by-outside w (set-mode m) (tt, tt) (tt, tt)
-
-  -- the trail
-  pub assign-clauses : (variable value level clause : ℕ) → SameClauses (assignStore w variable value level clause) w
-  assign-clauses variable value level clause = by-outside w (assign variable value level clause) (tt, tt) (tt, tt)
-
-  pub undo-last-clauses : SameClauses (undoLastStore w) w
-  undo-last-clauses = by-outside w undo-last (tt, tt) (tt, tt)
-
-  pub undo-until-clauses : (level : ℕ) → SameClauses (undoUntilStore w level) w
-  undo-until-clauses level = by-outside w (undo-until level) (tt, tt) (tt, tt)
-
-  pub next-clauses : SameClauses (nextStore w) w
-  next-clauses = by-outside w next-unpropagated (tt, tt) (tt, tt)
-
-  -- the queue
-  pub sync-clauses : SameClauses (syncStore w) w
-  sync-clauses = by-outside w sync (tt, (tt, (tt, tt))) (tt, (tt, (tt, tt)))
-
-  pub propose-clauses : SameClauses (proposalStore w) w
-  propose-clauses = by-outside w propose (tt, tt) (tt, tt)

@@ -1,5 +1,5 @@
 -- DEMANDS 2 AND 3, FOR THE WORDS THAT THE CALLS READ AND WRITE. Assumes nothing.
-use mathlib.Core.Bool.{true, false}
+use mathlib.Core.Bool.{false}
 use mathlib.Core.List.{List, []}
 use mathlib.Core.Path.{_≡_, refl, ap, sym, _∙_, fun-ext}
 use Prim.Native.Nat.{ℕ}

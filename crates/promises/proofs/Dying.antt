@@ -2,15 +2,14 @@
 use mathlib.Core.Bool.{Bool, true, false}
 use mathlib.Core.List.{List, [], _∷_}
 use mathlib.Core.Logic.{_⊎_, inl, inr, ⊎-elim, _↔_}
-use mathlib.Core.Path.{_≡_, refl, sym, ap, _∙_}
+use mathlib.Core.Path.{_≡_, refl, ap}
 use Prim.Native.Nat.{ℕ}
 use lib.Dec.{T, eqb, eqb→eq}
 use Rattle.promises.specs.Leaving.{DeadAmong, examinedFrom, examinedOn}
 use Rattle.rules.proofs.Ranks.{member-head}
 use Rattle.rules.specs.Walk.{Environment, best, better, look, member, passedOver, stops, walkFrom, walkOn}
 use Rattle.rules.specs.declared.Best.{Best}
-use Rattle.rules.specs.declared.Out.{Out}
-use Rattle.rules.specs.declared.Out.the-variants.{Nothing, Dead as DeadClause, Choose}
+use Rattle.rules.specs.declared.Out.the-variants.{Dead as DeadClause, Choose}
 use Rattle.rules.specs.declared.Seen.{Seen}
 use Rattle.rules.specs.declared.Seen.the-variants.{Shut, Open, Gone}
 use Rattle.store.proofs.Choice.{true-false, or-cases, or-inr}

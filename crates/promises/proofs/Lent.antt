@@ -22,12 +22,14 @@ use Rattle.requirement.specs.declared.Copied.the-variants.{Done, Refused}
 use Rattle.trail.specs.declared.Length.{Length}
 use Rattle.trail.specs.declared.Length.the-variants.{Entries, Refused as LengthRefused}
 
+-- the three calls that fill lent lists, on any words
 module _ (w : List ℕ) where
   copy-left : (xs l : List ℕ) (x : Copied) → copiedNumber x ≢ 0 → copyLeft x xs l ≡ l
   copy-left xs l (Done n m) h = absurd (h refl)
   copy-left xs l (Refused n) h = refl
 
-  candidates-lent : (kind id : ℕ) (lengths cells : List ℕ) → numberOf w (copy-candidates kind id lengths cells) ≢ 0 →
+  -- the candidates of a requirement
+  pub candidates-lent : (kind id : ℕ) (lengths cells : List ℕ) → numberOf w (copy-candidates kind id lengths cells) ≢ 0 →
       (copyLengths w kind id lengths cells ≡ lengths) × (copyCells w kind id lengths cells ≡ cells)
   unfolding copyOut copyLengths copyCells copyInLengths copyInCells
   candidates-lent kind id lengths cells h = (one lengths _, one cells _)
@@ -36,7 +38,8 @@ module _ (w : List ℕ) where
       one l xs =
           same-by copiedNumber (λ x. copyLeft x xs l) (soundShape w) (copyIn w kind id (length lengths) (length cells)) (Refused 1) l (copy-left xs l) h
 
-  rewrite-lent : (node : ℕ) (lengths cells : List ℕ) → numberOf w (rewrite node lengths cells) ≢ 0 →
+  -- the terms of a condition
+  pub rewrite-lent : (node : ℕ) (lengths cells : List ℕ) → numberOf w (rewrite node lengths cells) ≢ 0 →
       (rewriteLengths w node lengths cells ≡ lengths) × (rewriteCells w node lengths cells ≡ cells)
   unfolding rewriteOut rewriteLengths rewriteCells rewriteInLengths rewriteInCells
   rewrite-lent node lengths cells h =
@@ -50,19 +53,11 @@ module _ (w : List ℕ) where
           by (Terms n m) q = absurd (q refl)
           by (RewriteRefused n) q = refused n
 
-  trail-lent : (list : List Decision) → numberOf w (copy-trail list) ≢ 0 → copied w list (copiedCount (trailOut w (length list))) ≡ list
+  -- the entries of the trail
+  pub trail-lent : (list : List Decision) → numberOf w (copy-trail list) ≢ 0 → copied w list (copiedCount (trailOut w (length list))) ≡ list
   unfolding copied
   trail-lent list h = go (trailOut w (length list)) h
     where
       go : (x : Length) → lengthNumber x ≢ 0 → copied w list (copiedCount x) ≡ list
       go (Entries n) q = absurd (q refl)
       go (LengthRefused n) q = refl
-
--- THE THEOREM, over the three calls that fill lent lists, on any words
-pub refused-lists-same : (w : List ℕ) →
-    ((kind id : ℕ) (lengths cells : List ℕ) → numberOf w (copy-candidates kind id lengths cells) ≢ 0 →
-    (copyLengths w kind id lengths cells ≡ lengths) × (copyCells w kind id lengths cells ≡ cells))
-    × ((node : ℕ) (lengths cells : List ℕ) → numberOf w (rewrite node lengths cells) ≢ 0 →
-    (rewriteLengths w node lengths cells ≡ lengths) × (rewriteCells w node lengths cells ≡ cells))
-    × ((list : List Decision) → numberOf w (copy-trail list) ≢ 0 → copied w list (copiedCount (trailOut w (length list))) ≡ list)
-refused-lists-same w = (candidates-lent w, rewrite-lent w, trail-lent w)

@@ -19,6 +19,7 @@ pub mod Positions
 pub mod Summands
 pub mod Totals
 pub mod Demands
+pub mod Staying
 pub mod Trying
 pub mod Leaving
 pub mod Dying

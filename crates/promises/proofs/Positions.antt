@@ -12,7 +12,7 @@ use Rattle.evaluate.proofs.Records.{clause-none}
 use Rattle.evaluate.specs.Standing.{envOf, ofClause, storeOf}
 use Rattle.evaluate.specs.View.{literalsAt}
 use Rattle.promises.proofs.Calling.{call-genuine}
-use Rattle.promises.proofs.Clauses.{assign-clauses, load-candidates-clauses, load-condition-clauses, load-disjunction-clauses, load-union-clauses, load-version-set-clauses, mark-hot-clauses, next-clauses, propose-clauses, set-activity-clauses, set-mode-clauses, sync-clauses, undo-last-clauses, undo-until-clauses}
+use Rattle.promises.proofs.Clauses.{by-outside, load-candidates-clauses, load-condition-clauses, load-disjunction-clauses, load-union-clauses, load-version-set-clauses}
 use Rattle.promises.proofs.Genuine.{Genuine}
 use Rattle.promises.proofs.Registering.{register-is}
 use Rattle.promises.proofs.Starting.{fresh-genuine, fresh-is}
@@ -91,15 +91,15 @@ call-follows w (load-candidates kind id lengths cells) h g f = stays _ w h (load
 call-follows w (load-disjunction disjunction vs signs) h g f = stays _ w h (load-disjunction-clauses w g disjunction vs signs) f
 call-follows w (load-condition node kind left right) h g f = stays _ w h (load-condition-clauses w g node kind left right) f
 call-follows w (register parent kind requirement condition clause) h g f = register-follows w parent kind requirement condition clause h g f
-call-follows w (mark-hot name) h g f = stays _ w h (mark-hot-clauses w g name) f
-call-follows w (set-activity name activity fit) h g f = stays _ w h (set-activity-clauses w g name activity fit) f
-call-follows w (set-mode mode) h g f = stays _ w h (set-mode-clauses w g mode) f
-call-follows w (assign variable value level clause) h g f = stays _ w h (assign-clauses w g variable value level clause) f
-call-follows w undo-last h g f = stays _ w h (undo-last-clauses w g) f
-call-follows w (undo-until level) h g f = stays _ w h (undo-until-clauses w g level) f
-call-follows w next-unpropagated h g f = stays _ w h (next-clauses w g) f
-call-follows w sync h g f = stays _ w h (sync-clauses w g) f
-call-follows w propose h g f = stays _ w h (propose-clauses w g) f
+call-follows w (mark-hot name) h g f = stays _ w h (by-outside w (mark-hot name) (tt, tt) (tt, tt)) f
+call-follows w (set-activity name activity fit) h g f = stays _ w h (by-outside w (set-activity name activity fit) (tt, tt) (tt, tt)) f
+call-follows w (set-mode mode) h g f = stays _ w h (by-outside w (set-mode mode) (tt, tt) (tt, tt)) f
+call-follows w (assign variable value level clause) h g f = stays _ w h (by-outside w (assign variable value level clause) (tt, tt) (tt, tt)) f
+call-follows w undo-last h g f = stays _ w h (by-outside w undo-last (tt, tt) (tt, tt)) f
+call-follows w (undo-until level) h g f = stays _ w h (by-outside w (undo-until level) (tt, tt) (tt, tt)) f
+call-follows w next-unpropagated h g f = stays _ w h (by-outside w next-unpropagated (tt, tt) (tt, tt)) f
+call-follows w sync h g f = stays _ w h (by-outside w sync (tt, (tt, (tt, tt))) (tt, (tt, (tt, tt)))) f
+call-follows w propose h g f = stays _ w h (by-outside w propose (tt, tt) (tt, tt)) f
 call-follows w (value-of variable) h g f = f
 call-follows w (clause-of variable) h g f = f
 call-follows w trail-length h g f = f

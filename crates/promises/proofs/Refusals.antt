@@ -1,10 +1,10 @@
 -- THE NUMBERS THAT CALLS ANSWER, one theorem over all calls on any words: 1, "the slice is too short or the store's shape is unsound", exactly
 -- then, and else 0 or one of the call's refusals. Assumes nothing.
-use mathlib.Core.Bool.{Bool, true, false, cond, _||_}
+use mathlib.Core.Bool.{Bool, true, false, cond}
 use mathlib.Core.List.{List, [], _∷_}
 use mathlib.Core.Logic.{_⊎_, inl, inr, ⊎-elim, _↔_, _≢_}
 use mathlib.Core.Path.{_≡_, refl, sym, _∙_}
-use Prim.Native.Nat.{ℕ, _+_, _<_}
+use Prim.Native.Nat.{ℕ, _<_}
 use native.Mathlib.Omega.{arith}
 use borrow.Author.Tests.{leb-false, lt-leb}
 use lib.Dec.{T, eqb, leb, ltb}
@@ -14,7 +14,7 @@ use Rattle.conditions.specs.Disjunct.{disjunctIn, disjunctOut, holdsNumber}
 use Rattle.conditions.specs.Rewrite.{rewriteIn, rewriteOut, rewrittenNumber}
 use Rattle.promises.proofs.Calling.{reached-genuine, reached-sound}
 use Rattle.imbolaverk.specs.Calls.{Call, fresh, load-version-set, load-union, load-candidates, load-disjunction, load-condition, register, mark-hot, set-activity, set-mode, assign, undo-last, undo-until, next-unpropagated, sync, propose, value-of, clause-of, trail-length, copy-trail, copy-candidates, rewrite, disjunct-holds, settings, name-of, ReachedWords, numberOf, refusals}
-use Rattle.proposal.specs.Propose.{answer, proposalIn, proposalNumber, proposalOut, told, unsynced}
+use Rattle.proposal.specs.Propose.{proposalIn, proposalNumber, proposalOut, told, unsynced}
 use Rattle.requirement.specs.Copy.{copiedNumber, copyIn, copyOut}
 use Rattle.requirement.specs.Load.{loadIn, loadOut, loadedNumber as tableNumber}
 use Rattle.imbolaverk.specs.CopyTrail.{copyOut as trailOut, fitted}

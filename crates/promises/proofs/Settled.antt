@@ -1,6 +1,6 @@
 -- THE SETTINGS OVER ALL CALLS: those of a fresh store, hot names for good, and no cold name above zero in standard mode. Assumes nothing.
 use mathlib.Core.Bool.{Bool, true, false, cond}
-use mathlib.Core.List.{List, [], _∷_}
+use mathlib.Core.List.{List}
 use mathlib.Core.Logic.{⊎-elim, _≢_}
 use mathlib.Core.Path.{_≡_, refl, sym, ap, _∙_}
 use Prim.Native.Nat.{ℕ, _+_, _≤_, _<_}
@@ -10,7 +10,8 @@ use lib.Dec.{T, eqb, leb}
 use lib.Ieee.{Float, binary32, fits}
 use lib.ListN.{getD, length, set}
 use lib.Seq.{set-getD}
-use Rattle.imbolaverk.specs.Calls.{Call, fresh, load-version-set, load-union, load-candidates, load-disjunction, load-condition, register, mark-hot, set-activity, set-mode, assign, undo-last, undo-until, next-unpropagated, sync, propose, value-of, clause-of, trail-length, copy-trail, copy-candidates, rewrite, disjunct-holds, settings, name-of, ReachedWords, leftBy, run}
+use Rattle.imbolaverk.specs.Calls.{Call, fresh, load-version-set, load-union, load-candidates, load-disjunction, load-condition, register, mark-hot, set-activity, set-mode, assign, undo-last, undo-until, next-unpropagated, sync, propose, value-of, clause-of, trail-length, copy-trail, copy-candidates, rewrite, disjunct-holds, settings, name-of, ReachedWords, leftBy}
+use Rattle.promises.proofs.Calling.{reached-keeps}
 use Rattle.promises.proofs.Outside.{outside}
 use Rattle.promises.specs.Regions.{ApartAll, writesIn}
 use Rattle.settings.specs.Activity.{admitted}
@@ -214,12 +215,5 @@ module _ (w : List ℕ) (q : Quiet w) where
       by-settings w (λ c s. Quiet s) fresh-quiet hot-quiet (λ name x fit. activity-quiet name x) mode-quiet
       (λ c t. quiet-by (leftBy w c) w (still w c t mode tt 0) (λ name z. rw (still w c t hotNames tt name) at z) (still w c t activities tt) q)
 
-run-quiet : (w : List ℕ) (cs : List Call) → Quiet w → Quiet (run w cs)
-unfolding run
-run-quiet w [] q = q
-run-quiet w (c ∷ cs) q = run-quiet (leftBy w c) cs (call-quiet w q c)
-
 pub reached-quiet : (w : List ℕ) → ReachedWords w → at mode 0 w ≡ 1 → (name : ℕ) → name < names → at hotNames name w ≡ 0 → at activities name w ≡ 0
-reached-quiet w r =
-    rw (r .is)
-    (run-quiet (freshStore (r .found)) (r .calls) (λ m name l z. fresh-settings (r .found) (r .long) .1 name .1))
+reached-quiet = reached-keeps Quiet (λ f long m name l z. fresh-settings f long .1 name .1) (λ w c g q. call-quiet w q c)

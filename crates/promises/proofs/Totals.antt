@@ -1,10 +1,10 @@
 -- THE STORED TOTALS ARE THE SUMS over registered clauses that document 01 limits, on every store that calls reach: registering adds what
 -- the clause has, and no other call changes a summand. Assumes nothing.
 use mathlib.Core.Bool.{Bool, true, false, cond, not, _&&_}
-use mathlib.Core.List.{List, [], _∷_}
+use mathlib.Core.List.{List, []}
 use mathlib.Core.Logic.{_≢_}
 use mathlib.Core.Path.{_≡_, refl, sym, ap, subst, _∙_}
-use Prim.Native.Nat.{ℕ, _+_, _-_, _≤_, _<_}
+use Prim.Native.Nat.{ℕ, _+_, _≤_, _<_}
 use native.Mathlib.Omega.{arith}
 use borrow.Author.Tests.{eqb-false, le-leb, not-false, not-true}
 use lib.Dec.{T, eqb, ltb}
@@ -18,13 +18,12 @@ use Rattle.clauses.specs.Names.{distinctNames}
 use Rattle.clauses.specs.Record.{rankOf}
 use Rattle.clauses.specs.Register.{Placed, allNamed, conditionWord, knownCondition, literalCountOf, registerIn, registerInStore, registerStore, registered}
 use Rattle.evaluate.specs.View.{literalsAt}
-use Rattle.imbolaverk.specs.Calls.{Call, fresh, load-version-set, load-union, load-candidates, load-disjunction, load-condition, register, mark-hot, set-activity, set-mode, assign, undo-last, undo-until, next-unpropagated, sync, propose, value-of, clause-of, trail-length, copy-trail, copy-candidates, rewrite, disjunct-holds, settings, name-of, ReachedWords, leftBy, run}
-use Rattle.promises.proofs.Calling.{call-genuine, reached-genuine}
+use Rattle.imbolaverk.specs.Calls.{Call, fresh, load-version-set, load-union, load-candidates, load-disjunction, load-condition, register, mark-hot, set-activity, set-mode, assign, undo-last, undo-until, next-unpropagated, sync, propose, value-of, clause-of, trail-length, copy-trail, copy-candidates, rewrite, disjunct-holds, settings, name-of, ReachedWords, leftBy}
+use Rattle.promises.proofs.Calling.{reached-genuine, reached-keeps}
 use Rattle.promises.proofs.CandidateLoading.{candidates-stay}
 use Rattle.promises.proofs.Genuine.{Genuine, AllLoaded}
 use Rattle.promises.proofs.Loading.{Untabled, literals-untabled, node-untabled, set-untabled, union-untabled, untabled-none}
 use Rattle.promises.proofs.Outside.{outside}
-use Rattle.promises.proofs.Starting.{fresh-genuine}
 use Rattle.promises.proofs.Stays.{LiteralsStay, SetsStay, TablesStay, literals-untouched, literalsRegion, sets-untouched, setsRegion, tables-untouched}
 use Rattle.promises.proofs.Summands.{distinct-stays, distinct-untouched, over-inserted, stored-counted, stored-read, stored-stays, stored-untouched, sum-same}
 use Rattle.promises.specs.Regions.{ApartAll, writesIn}
@@ -277,15 +276,8 @@ call-summed w (disjunct-holds kinds starts lengths cells) g h = h
 call-summed w settings g h = h
 call-summed w (name-of name) g h = h
 
-run-summed : (w : List ℕ) (cs : List Call) → Genuine w → Summed w → Summed (run w cs)
-unfolding run
-run-summed w [] g h = h
-run-summed w (c ∷ cs) g h = run-summed (leftBy w c) cs (call-genuine w c g) (call-summed w c g h)
-
 reached-summed : (w : List ℕ) → ReachedWords w → Summed w
-reached-summed w r =
-    let f = r .found in
-    rw (r .is) (run-summed (freshStore f) (r .calls) (fresh-genuine f (r .long)) (fresh-summed f (r .long)))
+reached-summed = reached-keeps Summed fresh-summed call-summed
 
 -- THE THEOREM: "the sum over registered clauses of their condition's literals .. and the sum of their distinct names"
 pub totals-are : (w : List ℕ) → ReachedWords w → (at conditionTotal 0 w ≡ literalSum w) × (at nameTotal 0 w ≡ nameSum w)

@@ -3,10 +3,10 @@ use mathlib.Core.Bool.{Bool, true, false, cond}
 use mathlib.Core.List.{List, [], _∷_, _++_}
 use mathlib.Core.Logic.{_≢_}
 use mathlib.Core.Path.{_≡_, refl, ap, sym, subst, _∙_}
-use Prim.Native.Nat.{ℕ, zero, suc, _+_, _-_, _≤_, _<_, min}
+use Prim.Native.Nat.{ℕ, _+_, _-_, _≤_, _<_, min}
 use native.Mathlib.Omega.{arith}
-use borrow.Author.Tests.{ltb-false, le-leb, lt-leb, ne-eqb}
-use lib.Dec.{T, leb, ltb, eqb}
+use borrow.Author.Tests.{le-leb, lt-leb, ne-eqb}
+use lib.Dec.{T, leb, eqb}
 use lib.ListN.{length, take}
 use Rattle.evaluate.proofs.Frames.{assigned-same, entry-by, env-same, mirror-same, queue-same, trail-by}
 use Rattle.evaluate.specs.Standing.{entryAt, storeOf, trailOf}
@@ -16,22 +16,19 @@ use Rattle.promises.proofs.Trails.{mapped-none, mapped-popped, mapped-p
 use Rattle.rules.specs.Store.{Reached, Step, Store, push, same, then, undo}
 use Rattle.rules.specs.Sync.{Entry, valueOf}
 use Rattle.store.proofs.AreaLaws.{apart-inside, area-kept, at-kept, at-puts-else, at-puts-here, at-same}
-use Rattle.store.proofs.Choice.{cond-either}
 use Rattle.store.specs.Area.{Area, Inside, Write, apart, area, at, put, write}
 use Rattle.store.specs.Layout.{clauseCount, environmentRegion, map, mirrorRegion, propagated, queueRegion, syncFloor, trailClauses, trailLength, trailRegion, trailValues, trailVariables, words}
 use Rattle.store.specs.Limits.{lastLevel}
-use Rattle.store.specs.Shape.{Sound, soundShape}
-use Rattle.trail.proofs.Assigning.{Fitting, new-fits}
-use Rattle.trail.proofs.Kept.{cleared-count, cleared-floor, cleared-map, cleared-outside, cleared-sound, next-sound, popped-floor, popped-outside, popped-sound, pushed-count, pushed-kept, pushed-outside, pushed-sound}
+use Rattle.store.specs.Shape.{Sound}
+use Rattle.trail.proofs.Assigning.{Fitting}
+use Rattle.trail.proofs.Kept.{assign-either, assign-public, cleared-count, cleared-floor, cleared-map, cleared-outside, cleared-sound, moved-sound, next-either, next-public, popped-floor, popped-outside, popped-sound, pushed-count, pushed-kept, pushed-outside, pushed-sound, undo-last-either, undo-last-public, undo-until-either, undo-until-public}
 use Rattle.trail.proofs.Popping.{entered, popped-count, popped-kept}
-use Rattle.trail.specs.Assign.{assignIn, assignInStore, assignLeft, assignStore, pushed}
+use Rattle.trail.specs.Assign.{assignStore, pushed}
 use Rattle.trail.specs.Cell.{cellOf, cellSide, cellValue}
-use Rattle.trail.specs.Entries.{Entered, entries, levelOfLast}
-use Rattle.trail.specs.Next.{nextInStore, nextStore}
-use Rattle.trail.specs.UndoLast.{popped, undoLastInStore, undoLastStore}
-use Rattle.trail.specs.UndoUntil.{cleared, noStop, poppedTo, undoUntilInStore, undoUntilStore}
-use Rattle.trail.specs.declared.Assigned.{Assigned}
-use Rattle.trail.specs.declared.Assigned.the-variants.{Already, New, Refused}
+use Rattle.trail.specs.Entries.{Entered, entries}
+use Rattle.trail.specs.Next.{nextStore}
+use Rattle.trail.specs.UndoLast.{popped, undoLastStore}
+use Rattle.trail.specs.UndoUntil.{cleared, undoUntilStore}
 use Rattle.trail.specs.declared.Value.the-variants.{False, True, Undecided}
 
 -- a store with another trail and floor
@@ -138,13 +135,9 @@ module _ (w : List ℕ) (variable value level clause : ℕ) (f : Fitting w varia
 
 -- for all arguments: a refusal and "already" leave the words
 pub assign-genuine : (w : List ℕ) (variable value level clause : ℕ) → Genuine w → Genuine (assignStore w variable value level clause)
-unfolding assignStore assignInStore
-assign-genuine w variable value level clause g = cond-either Genuine (soundShape w) (assignInStore w variable value level clause) w (λ e. go (assignIn w variable value level) refl) (λ e. g)
-  where
-    go : (r : Assigned) → assignIn w variable value level ≡ r → Genuine (assignLeft r w variable value level clause)
-    go New e = pushed-genuine w variable value level clause (new-fits w variable value level e) g
-    go Already e = g
-    go (Refused n) e = g
+assign-genuine w variable value level clause g =
+    rw (assign-public w (g .sound) variable value level clause .1)
+    (assign-either Genuine w g variable value level clause (λ f. pushed-genuine w variable value level clause f g))
 
 -- TAKING BACK
 pub popped-entries : (w : List ℕ) → Sound w → (k : ℕ) → entryAt (popped w) k ≡ entryAt w k
@@ -187,32 +180,13 @@ module _ (w : List ℕ) (g : Genuine w) where
       trailed-genuine (cleared w) w (cleared-outside w h) [] (min (at syncFloor 0 w) 0) (trail-none (cleared w) (cleared-count w h))
       (cleared-floor w h ∙ omega arith) (undo 0) (cleared-sound w h) (mapped-none (cleared w) (cleared-count w h) (cleared-map w h)) g
 
-poppedTo-genuine : (level n : ℕ) (w : List ℕ) → n ≤ entries w → Genuine w → Genuine (poppedTo level n w)
-unfolding poppedTo
-poppedTo-genuine level zero w l g = g
-poppedTo-genuine level (suc n) w l g =
-    let rest = poppedTo-genuine level n (popped w) (omega (arith, l, popped-count w (entered w (g .sound)))) (popped-genuine w g (omega (arith, l))) in
-    cond-either Genuine (leb (levelOfLast w) level) w (poppedTo level n (popped w)) (λ e. g) (λ e. rest)
-
 pub undo-last-genuine : (w : List ℕ) → Genuine w → Genuine (undoLastStore w)
-unfolding undoLastStore undoLastInStore
-undo-last-genuine w g =
-    cond-either Genuine (soundShape w) (undoLastInStore w) w
-    (λ e. cond-either Genuine (ltb (entries w) 2) w (popped w) (λ h. g) (λ h. popped-genuine w g (omega (arith, ltb-false (entries w) 2 h))))
-    (λ e. g)
+undo-last-genuine w g = rw (undo-last-public w (g .sound) .1) (undo-last-either Genuine w g (λ l. popped-genuine w g (omega arith)))
 
 pub undo-until-genuine : (w : List ℕ) (level : ℕ) → Genuine w → Genuine (undoUntilStore w level)
-unfolding undoUntilStore undoUntilInStore
 undo-until-genuine w level g =
-    let pops : List ℕ = poppedTo level (entries w) w in
-    let stops : List ℕ = cond (noStop w level) w pops in
-    let clears : List ℕ = cond (eqb level 0) (cleared w) stops in
-    cond-either Genuine (soundShape w) (undoUntilInStore w level) w
-    (λ e.
-    cond-either Genuine (ltb lastLevel level) w clears (λ h. g)
-    (λ h. cond-either Genuine (eqb level 0) (cleared w) stops (λ k. cleared-genuine w g)
-    (λ k. cond-either Genuine (noStop w level) w pops (λ m. g) (λ m. poppedTo-genuine level (entries w) w (omega arith) g))))
-    (λ e. g)
+    rw (undo-until-public w (g .sound) level .1)
+    (undo-until-either Genuine w g level (g .sound) (cleared-genuine w g) (λ s h some k. popped-genuine s k some))
 
 -- THE NEXT ENTRY: only the propagation index moves, and document 01's store has none
 module _ (w : List ℕ) (x : ℕ) (g : Genuine w) where
@@ -230,9 +204,5 @@ module _ (w : List ℕ) (x : ℕ) (g : Genuine w) where
       (mapped-same moved w (assigned-same moved w (area-kept map propagated 0 x w tt (omega arith))) e (g .mapped)) g
 
 pub next-genuine : (w : List ℕ) → Genuine w → Genuine (nextStore w)
-unfolding nextStore nextInStore
-next-genuine w g = cond-either Genuine (soundShape w) (nextInStore w) w (λ e. go (ltb (at propagated 0 w) (entries w)) (next-sound w (g .sound))) (λ e. g)
-  where
-    go : (b : Bool) → Sound (cond b (put propagated 0 (at propagated 0 w + 1) w) w) → Genuine (cond b (put propagated 0 (at propagated 0 w + 1) w) w)
-    go true h = moved-genuine w (at propagated 0 w + 1) g h
-    go false h = g
+next-genuine w g =
+    rw (next-public w (g .sound) .1) (next-either Genuine w g (λ l. moved-genuine w (at propagated 0 w + 1) g (moved-sound w (g .sound) l)))

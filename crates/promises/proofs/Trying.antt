@@ -1,138 +1,42 @@
 -- TRYING AND TAKING BACK LEAVES THE SIX THINGS AS THEY WERE, so the proposal that she left is there again. Assumes nothing.
-use mathlib.Core.Bool.{false, cond}
+use mathlib.Core.Bool.{false}
 use mathlib.Core.List.{List, [], _∷_, _++_}
 use mathlib.Core.Path.{_≡_, refl, ap, sym, _∙_}
-use Prim.Native.Nat.{ℕ, zero, suc, _+_, _≤_, _<_}
+use Prim.Native.Nat.{ℕ, _+_, _≤_, _<_}
 use native.Mathlib.Omega.{arith}
 use borrow.Author.Tests.{le-ltb}
-use lib.Dec.{eqb, leb, ltb}
+use lib.Dec.{ltb}
 use lib.Seq.{take-all}
 use Rattle.evaluate.proofs.Froms.{length-trail}
-use Rattle.evaluate.proofs.Frames.{entry-by, env-same}
+use Rattle.evaluate.proofs.Frames.{env-same}
 use Rattle.evaluate.specs.Standing.{entryAt, trailOf}
-use Rattle.imbolaverk.specs.Calls.{Call, fresh, load-version-set, load-union, load-candidates, load-disjunction, load-condition, register, mark-hot, set-activity, set-mode, assign, undo-last, undo-until, next-unpropagated, sync, propose, value-of, clause-of, trail-length, copy-trail, copy-candidates, rewrite, disjunct-holds, settings, name-of, ReachedWords, leftBy, run}
+use Rattle.imbolaverk.specs.Calls.{Call, assign, undo-last, sync, propose, ReachedWords, leftBy, run}
 use Rattle.promises.proofs.Calling.{call-genuine, reached-genuine, reached-on, run-genuine}
 use Rattle.promises.proofs.Demands.{demand3}
 use Rattle.promises.proofs.Genuine.{Genuine}
 use Rattle.promises.proofs.Outside.{outside}
-use Rattle.promises.proofs.Trailing.{popped-entries, pushed-entries}
+use Rattle.promises.proofs.Staying.{entries-stay}
 use Rattle.promises.proofs.Trails.{trail-cut}
-use Rattle.promises.specs.Regions.{ApartAll, writesIn}
 use Rattle.promises.specs.Six.{SameSix, undropped}
 use Rattle.promises.specs.Trying.{Asks, TakesBack, entriesRegion}
 use Rattle.proposal.specs.Propose.{proposalOut, unsynced}
 use Rattle.rules.specs.Sync.{Entry, value}
 use Rattle.rules.specs.Walk.{Environment}
-use Rattle.store.proofs.AreaLaws.{at-kept, at-same}
-use Rattle.store.proofs.Choice.{cond-either}
+use Rattle.store.proofs.AreaLaws.{at-same}
 use Rattle.store.proofs.Soundness.{sound-shape}
-use Rattle.store.specs.Area.{area, at, put}
-use Rattle.store.specs.Layout.{environmentRegion, hotNames, mode, propagated, trailLength, trailValues, trailVariables}
-use Rattle.store.specs.Limits.{lastLevel}
-use Rattle.store.specs.Shape.{Sound, soundShape}
+use Rattle.store.specs.Area.{area}
+use Rattle.store.specs.Layout.{environmentRegion, hotNames, mode, trailLength}
+use Rattle.store.specs.Shape.{Sound}
 use Rattle.sync.proofs.Kept.{sync-outside}
 use Rattle.sync.proofs.Standing.{sync-floor, sync-mirror-length, sync-trail}
 use Rattle.sync.specs.Sync.{syncInStore, syncStore}
 use Rattle.trail.proofs.Assigning.{new-fits, new-leaves}
-use Rattle.trail.proofs.Kept.{assign-public, cleared-count, popped-sound, pushed-count, undo-last-public}
+use Rattle.trail.proofs.Kept.{assign-public, pushed-count, undo-last-public}
 use Rattle.trail.proofs.Popping.{entered, popped-count}
-use Rattle.trail.specs.Assign.{assignIn, assignInStore, assignLeft, assignOut, assignStore}
-use Rattle.trail.specs.Entries.{entries, levelOfLast}
-use Rattle.trail.specs.Next.{nextInStore, nextStore}
+use Rattle.trail.specs.Assign.{assignOut, assignStore}
+use Rattle.trail.specs.Entries.{entries}
 use Rattle.trail.specs.UndoLast.{popped, undoLastInStore, undoLastStore}
-use Rattle.trail.specs.UndoUntil.{cleared, noStop, poppedTo, undoUntilInStore, undoUntilStore}
-use Rattle.trail.specs.declared.Assigned.{Assigned}
-use Rattle.trail.specs.declared.Assigned.the-variants.{Already, New, Refused}
-
--- THE FIRST ENTRIES STAY in every such call that leaves so many
-popped-to-entries : (level m : ℕ) (w : List ℕ) → Sound w → (k : ℕ) → entryAt (poppedTo level m w) k ≡ entryAt w k
-unfolding poppedTo
-popped-to-entries level zero w h k = refl
-popped-to-entries level (suc m) w h k =
-    let rest = popped-to-entries level m (popped w) (popped-sound w h) k ∙ popped-entries w h k in
-    cond-either (λ s. entryAt s k ≡ entryAt w k) (leb (levelOfLast w) level) w (poppedTo level m (popped w)) (λ e. refl) (λ e. rest)
-
-module _ (w : List ℕ) (h : Sound w) (n : ℕ) (l : n ≤ entries w) where
-  abbrev Stay : List ℕ → Type 0
-  Stay s = n ≤ entries s → (k : ℕ) → k < n → entryAt s k ≡ entryAt w k
-
-  self : Stay w
-  self m k q = refl
-
-  beside : (c : Call) → ApartAll entriesRegion (writesIn c) → Stay (leftBy w c)
-  beside c t m k q =
-      let e = outside w c entriesRegion t in
-      entry-by (leftBy w c) w k (at-same trailVariables entriesRegion (leftBy w c) w tt e k) (at-same trailValues entriesRegion (leftBy w c) w tt e k)
-
-  assign-stay : (variable value level clause : ℕ) → Stay (assignStore w variable value level clause)
-  unfolding assignStore assignInStore
-  assign-stay variable value level clause =
-      cond-either Stay (soundShape w) (assignInStore w variable value level clause) w (λ e. go (assignIn w variable value level) refl) (λ e. self)
-    where
-      go : (r : Assigned) → assignIn w variable value level ≡ r → Stay (assignLeft r w variable value level clause)
-      go New e = λ m k q. pushed-entries w variable value level clause (new-fits w variable value level e) k (omega arith)
-      go Already e = self
-      go (Refused x) e = self
-
-  undo-last-stay : Stay (undoLastStore w)
-  unfolding undoLastStore undoLastInStore
-  undo-last-stay =
-      cond-either Stay (soundShape w) (undoLastInStore w) w
-      (λ e. cond-either Stay (ltb (entries w) 2) w (popped w) (λ f. self) (λ f m k q. popped-entries w h k))
-      (λ e. self)
-
-  undo-until-stay : (level : ℕ) → Stay (undoUntilStore w level)
-  unfolding undoUntilStore undoUntilInStore
-  undo-until-stay level =
-      let pops : List ℕ = poppedTo level (entries w) w in
-      let stops : List ℕ = cond (noStop w level) w pops in
-      let clears : List ℕ = cond (eqb level 0) (cleared w) stops in
-      cond-either Stay (soundShape w) (undoUntilInStore w level) w
-      (λ e.
-      cond-either Stay (ltb lastLevel level) w clears (λ f. self)
-      (λ f. cond-either Stay (eqb level 0) (cleared w) stops (λ d m k q. absurd (omega (arith, cleared-count w h)))
-      (λ d. cond-either Stay (noStop w level) w pops (λ b. self) (λ b m k q. popped-to-entries level (entries w) w h k))))
-      (λ e. self)
-
-  next-stay : Stay (nextStore w)
-  unfolding nextStore nextInStore
-  next-stay =
-      let i = at propagated 0 w + 1 in
-      let s : List ℕ = put propagated 0 i w in
-      cond-either Stay (soundShape w) (nextInStore w) w
-      (λ e.
-      cond-either Stay (ltb (at propagated 0 w) (entries w)) s w
-      (λ f m k q.
-      entry-by s w k (at-kept trailVariables propagated 0 k i w tt (omega arith)) (at-kept trailValues propagated 0 k i w tt (omega arith)))
-      (λ f. self))
-      (λ e. self)
-
-  entries-stay : (c : Call) → ApartAll environmentRegion (writesIn c) → Stay (leftBy w c)
-  entries-stay fresh t = absurd (t .0)
-  entries-stay (load-version-set set name) t = absurd (t .0)
-  entries-stay (load-union union members) t = absurd (t .0)
-  entries-stay (load-candidates kind id lengths cells) t = absurd (t .0)
-  entries-stay (load-disjunction disjunction vs signs) t = absurd (t .0)
-  entries-stay (load-condition node kind left right) t = absurd (t .0)
-  entries-stay (register parent kind requirement condition clause) t = absurd (t .0)
-  entries-stay (mark-hot name) t = absurd (t .0)
-  entries-stay (set-activity name activity fit) t = absurd (t .0)
-  entries-stay (set-mode m) t = absurd (t .0)
-  entries-stay (assign variable value level clause) t = assign-stay variable value level clause
-  entries-stay undo-last t = undo-last-stay
-  entries-stay (undo-until level) t = undo-until-stay level
-  entries-stay next-unpropagated t = next-stay
-  entries-stay sync t = beside sync (tt, (tt, (tt, tt)))
-  entries-stay propose t = beside propose (tt, tt)
-  entries-stay (value-of variable) t = self
-  entries-stay (clause-of variable) t = self
-  entries-stay trail-length t = self
-  entries-stay (copy-trail list) t = self
-  entries-stay (copy-candidates kind id lengths cells) t = self
-  entries-stay (rewrite node lengths cells) t = self
-  entries-stay (disjunct-holds kinds starts lengths cells) t = self
-  entries-stay settings t = self
-  entries-stay (name-of name) t = self
+use Rattle.trail.specs.declared.Assigned.the-variants.{New}
 
 -- the words of clauses, tables and settings are as they were, and so is the trail
 record Again (w s : List ℕ) : Type 0 where
@@ -210,6 +114,7 @@ module _ (w : List ℕ) (r : ReachedWords w) (tried : List Call) (t : TakesBack 
       let six = again-six w (syncStore s) g (call-genuine s sync h) (synced-again w s (h .sound) tried-again) in
       sym (demand3 w (syncStore s) r (reached-on s (reached-on w r tried) (sync ∷ [])) x (synced-now s (h .sound)) six)
 
+-- one entry more than n, any asking, and an undo-last: that is taken back to n
 asked-back : (n : ℕ) (s : List ℕ) (asked : List Call) → Genuine s → Asks asked → 1 ≤ n → entries s ≡ n + 1 → TakesBack n s (asked ++ (undo-last ∷ []))
 unfolding undoLastInStore
 asked-back n s [] g t some e =
@@ -222,6 +127,7 @@ asked-back n s (c ∷ cs) g t some e =
     let kept = at-same trailLength entriesRegion (leftBy s c) s tt (outside s c entriesRegion (t .1 .0)) 0 in
     (t .0, (omega (arith, kept, e), asked-back n (leftBy s c) cs (call-genuine s c g) (t .1 .1) some (kept ∙ e)))
 
+-- she accepts a candidate, asks, and takes it back
 module _ (w : List ℕ) (r : ReachedWords w) (some : 1 ≤ entries w) (variable value level clause : ℕ) (new : assignOut w variable value level ≡ New) where
   accepted-count : entries (assignStore w variable value level clause) ≡ entries w + 1
   accepted-count =
@@ -236,10 +142,6 @@ module _ (w : List ℕ) (r : ReachedWords w) (some : 1 ≤ entries w) (variable 
       let s = assignStore w variable value level clause in
       let g = call-genuine w (assign variable value level clause) (reached-genuine w r) in
       ((tt, tt), (omega (arith, accepted-count), asked-back (entries w) s asked g t some accepted-count))
-
-  -- the six things are as they were
-  pub accepted-six : (asked : List Call) → Asks asked → SameSix w (run w (assign variable value level clause ∷ asked ++ (undo-last ∷ [])))
-  accepted-six asked t = tried-six w r (assign variable value level clause ∷ asked ++ (undo-last ∷ [])) (accepted-back asked t)
 
   -- so after a sync the proposal that she left is there again, however often she asked
   pub accepted-and-taken-back : unsynced w ≡ false → (asked : List Call) → Asks asked →
