@@ -1,6 +1,6 @@
--- DEMAND 3 OVER THE RULES: every step from a fresh store keeps the invariant, and a synced store that has it answers as the walk.
+-- THE INVARIANT OVER THE RULES: every step from a fresh store keeps it, and a synced store that has it answers as the walk.
 -- Assumes nothing.
-use mathlib.Core.Path.{_≡_, refl, ap, sym, _∙_, fun-ext}
+use mathlib.Core.Path.{_≡_, refl, ap, sym, _∙_}
 use mathlib.Core.Bool.{Bool, true, false, cond, _||_, false≢true}
 use mathlib.Core.List.{List, [], _∷_, _++_, append-assoc, append-nil}
 use mathlib.Core.Logic.{_⊎_, inl, inr, ⊎-elim}
@@ -81,11 +81,6 @@ pub synced-holds : (t : Store) → Inv t → Synced t → Holds (t .env) (assign
 synced-holds t i s =
     let same-trail : t .trail ≡ i .base = i .trail-is ∙ rw (none-new t i s) (append-nil (i .base)) in
     rw same-trail (rw (none-popped t i s) at (i .holds))
-
--- a synced store answers as the walk
-answers : (t : Store) → Inv t → Synced t → (asked t) .out ≡ walk (t .env) (assigned t)
-answers t i s =
-    ask-holds (t .env) (assigned t) (t .queue) (synced-holds t i s) .0
 
 -- EACH STEP KEEPS THE INVARIANT
 
@@ -325,11 +320,6 @@ pub reached-inv : (t : Store) → Reached t → Inv t
 reached-inv t (fresh f) = fresh-inv t f
 reached-inv t (then {t = u} r s) = step-inv u t s (reached-inv u r)
 
--- DEMAND 3: the proposal of a reached and synced store is the walk's
-pub demand3 : (t : Store) → Reached t → Synced t → (asked t) .out ≡ walk (t .env) (assigned t)
-demand3 t r s = answers t (reached-inv t r) s
-
--- and so two of them with the same clauses, tables, settings and assignment answer alike
-pub comes-back : (t u : Store) → Reached t → Synced t → Reached u → Synced u → t .env ≡ u .env → ((v : ℕ) → assigned t v ≡ assigned u v) → (asked t) .out ≡ (asked u) .out
-comes-back t u r s q z e a =
-    demand3 t r s ∙ ap (λ (f : Environment). walk f (assigned t)) e ∙ ap (λ (f : ℕ → Value). walk (u .env) f) (fun-ext a) ∙ sym (demand3 u q z)
+-- THE WALK'S ANSWER: the proposal of a reached and synced store is the walk's
+pub asked-is-walk : (t : Store) → Reached t → Synced t → (asked t) .out ≡ walk (t .env) (assigned t)
+asked-is-walk t r s = ask-holds (t .env) (assigned t) (t .queue) (synced-holds t (reached-inv t r) s) .0
