@@ -19,7 +19,7 @@ use Rattle.rules.specs.Invariant.{Reason, queued, idle, moved, held, sat
 use Rattle.rules.specs.Store.{remade, Store, assigned, Synced, pushed, cut, touched, sync, asked, ask, tuned, loaded, behind, rank, inserted, registered, Step, same, push, undo, syncs, asks, tunes, loads, registers, Fresh, Reached, fresh, then}
 use Rattle.rules.proofs.Hold.{routes-holds}
 use Rattle.rules.proofs.Move.{member-left, member-right, move}
-use Rattle.rules.proofs.Kept.{ask-holds}
+use Rattle.rules.proofs.Same.{same-walk}
 
 -- the trail and the mirror share `base`, the entries below the floor
 pub record Inv (t : Store) : Type 0 where
@@ -178,7 +178,7 @@ ask-inv t s i =
       trail-is = sym (append-nil (t .trail));
       mirror-is = i .mirror-is ∙ rw (none-popped t i s, i .trail-is, none-new t i s, append-nil (i .base));
       floor-is = i .floor-is ∙ rw (i .trail-is, none-new t i s, append-nil (i .base));
-      holds = ask-holds (t .env) (assigned t) (t .queue) (synced-holds t i s) .1;
+      holds = same-walk (t .env) (assigned t) (t .queue) (synced-holds t i s) .1;
     }
 
 -- a clause keeps its reason at another rank
@@ -322,4 +322,4 @@ reached-inv t (then {t = u} r s) = step-inv u t s (reached-inv u r)
 
 -- THE WALK'S ANSWER: the proposal of a reached and synced store is the walk's
 pub asked-is-walk : (t : Store) → Reached t → Synced t → (asked t) .out ≡ walk (t .env) (assigned t)
-asked-is-walk t r s = ask-holds (t .env) (assigned t) (t .queue) (synced-holds t (reached-inv t r) s) .0
+asked-is-walk t r s = same-walk (t .env) (assigned t) (t .queue) (synced-holds t (reached-inv t r) s) .0

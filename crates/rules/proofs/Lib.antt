@@ -1,9 +1,9 @@
 pub mod Cases
 pub mod Ranks
-pub mod Same
 pub mod Hold
 pub mod Move
 pub mod Kept
+pub mod Same
 pub mod Demand
 pub mod Modes
 pub mod Edges
