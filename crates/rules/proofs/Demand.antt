@@ -4,7 +4,7 @@ use mathlib.Core.Path.{_≡_, refl, ap, sym, _∙_}
 use mathlib.Core.Bool.{Bool, true, false, cond, _||_, false≢true}
 use mathlib.Core.List.{List, [], _∷_, _++_, append-assoc, append-nil}
 use mathlib.Core.Logic.{_⊎_, inl, inr, ⊎-elim}
-use Prim.Native.Nat.{ℕ, zero, suc, _+_, _-_, _≤_, _<_}
+use Prim.Native.Nat.{ℕ, suc, _+_, _-_, _≤_, _<_}
 use native.Mathlib.Omega.{arith}
 use native.Mathlib.Decide.{decLe}
 use lib.Dec.{T, eqb, eqb→eq, ltb, ltb→lt}
@@ -16,9 +16,10 @@ use Rattle.rules.specs.Walk.{Value, Undecided, isTrue, Literal, Candidat
 use Rattle.rules.specs.Queue.{Cache, Dirty, Known, Queue}
 use Rattle.rules.specs.Sync.{Entry, valueOf, value, variables, meets}
 use Rattle.rules.specs.Invariant.{Reason, queued, idle, moved, held, sated, Fit, Holds}
-use Rattle.rules.specs.Store.{remade, Store, assigned, Synced, pushed, cut, touched, sync, asked, ask, tuned, loaded, behind, rank, inserted, registered, Step, same, push, undo, syncs, asks, tunes, loads, registers, Fresh, Reached, fresh, then}
+use Rattle.rules.specs.Store.{remade, Store, assigned, Synced, pushed, cut, touched, sync, asked, ask, tuned, loaded, rank, registered, Step, same, push, undo, syncs, asks, tunes, loads, registers, Fresh, Reached, fresh, then}
 use Rattle.rules.proofs.Hold.{routes-holds}
 use Rattle.rules.proofs.Move.{member-left, member-right, move}
+use Rattle.rules.proofs.Ranks.{behind-most, inserted-above, inserted-at, inserted-below}
 use Rattle.rules.proofs.Same.{same-walk}
 
 -- the trail and the mirror share `base`, the entries below the floor
@@ -230,25 +231,6 @@ load-inv t r cs h i =
     at-j j false p = rw p (i .holds .fit j)
 
 -- registering
-pub behind-most : (f : ℕ → ℕ) (p n m : ℕ) → n ≤ m → behind f p n m ≤ m
-unfolding behind
-behind-most f p zero m h = omega arith
-behind-most f p (suc n) m h = go (eqb (f n) p) (behind-most f p n m (omega arith))
-  where
-    go : (b : Bool) → behind f p n m ≤ m → cond b (suc n) (behind f p n m) ≤ m
-    go true ih = h
-    go false ih = ih
-
-module _ {A : Type 0} (f : ℕ → A) (i : ℕ) (x : A) (j : ℕ) where
-  pub inserted-below : ltb j i ≡ true → inserted f i x j ≡ f j
-  inserted-below q = rw q
-
-  pub inserted-at : ltb j i ≡ false → eqb j i ≡ true → inserted f i x j ≡ x
-  inserted-at q h = rw (q, h)
-
-  pub inserted-above : ltb j i ≡ false → eqb j i ≡ false → inserted f i x j ≡ f (j - 1)
-  inserted-above q h = rw (q, h)
-
 register-inv : (t : Store) (p r : ℕ) (w : List Literal) (c : ℕ) → Inv t → Inv (registered t p r w c)
 register-inv t p r w c i =
     remade-inv t _ _ i
