@@ -6,7 +6,7 @@ pub mod Kept
 pub mod Same
 pub mod Demand
 pub mod Modes
-pub mod Edges
+pub mod WrongTurns
 pub mod Nothing
 pub mod Map
 pub mod Drops
