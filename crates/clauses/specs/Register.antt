@@ -20,7 +20,6 @@ use Rattle.trail.specs.Cell.{cellSide}
 use Rattle.clauses.specs.declared.Clause.{Clause}
 use Rattle.clauses.specs.declared.Registered.{Registered}
 use Rattle.clauses.specs.declared.Registered.the-variants.{Done, Refused}
-use Rattle.tables.specs.declared.Literals.{Literals}
 
 -- no condition, or a loaded disjunction
 unfoldable pub knownCondition : List ℕ → ℕ → Bool

@@ -13,7 +13,7 @@ use Rattle.examine.specs.Cache.{cacheWrites, cached}
 use Rattle.store.proofs.AreaLaws.{area-puts, at-kept, at-put-else, at-written, clear-outside, length-puts}
 use Rattle.store.proofs.Soundness.{sound-put}
 use Rattle.store.specs.Area.{Area, Inside, Write, apart, area, at, put, puts, write}
-use Rattle.store.specs.Layout.{cacheCandidates, cacheCounts, cacheNames, cacheStates, region, words}
+use Rattle.store.specs.Layout.{cacheCandidates, cacheCounts, cacheNames, cacheStates, words}
 use Rattle.store.specs.Limits.{cellRoom, lastName, lastVariable, requirements}
 use Rattle.store.specs.Shape.{Sound}
 use Rattle.rules.specs.declared.Cache.the-variants.{Dirty, Known}

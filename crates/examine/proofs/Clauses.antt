@@ -1,20 +1,16 @@
 -- What a clause's words say of the definitions, where there is such a clause. Assumes nothing.
-use mathlib.Core.Bool.{Bool, true, false, cond}
+use mathlib.Core.Bool.{true, false}
 use mathlib.Core.List.{List}
 use mathlib.Core.Logic.{_≢_}
 use mathlib.Core.Path.{_≡_}
-use Prim.Native.Nat.{ℕ, _≤_, _<_}
-use native.Mathlib.Omega.{arith}
-use borrow.Author.Tests.{lt-ltb, eq-eqb, ne-eqb}
-use lib.Dec.{T, ltb}
+use Prim.Native.Nat.{ℕ, _<_}
+use borrow.Author.Tests.{eq-eqb, ne-eqb}
 use Rattle.evaluate.proofs.Records.{clause-word}
-use Rattle.evaluate.specs.Standing.{envOf, markOf, ofClause}
+use Rattle.evaluate.specs.Standing.{envOf, markOf}
 use Rattle.evaluate.specs.View.{assigned, literalsAt}
 use Rattle.rules.specs.Walk.{active, allFalse, isTrue}
-use Rattle.store.specs.Area.{Area, _upto_, at}
-use Rattle.store.specs.Layout.{clauseConditions, clauseCount, clauseParents, clauseRequirements, queued, table}
-use Rattle.store.specs.Limits.{clauses, disjunctions, lastRequirement, lastVariable, requirements, variables}
-use Rattle.store.specs.Shape.{Sound, listed}
+use Rattle.store.specs.Area.{at}
+use Rattle.store.specs.Layout.{clauseConditions, clauseCount, clauseParents, queued}
 
 -- "A clause is active if its parent is true and every literal of its condition is false"
 module _ (w : List ℕ) (k : ℕ) (l : k < at clauseCount 0 w) (p : ℕ) (e : p ≡ at clauseParents k w) where

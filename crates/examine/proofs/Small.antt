@@ -1,7 +1,7 @@
 -- What a requirement of a sound store is has numbers in range: its candidate a variable, its name a name, its count at most the cells.
 -- Assumes nothing.
 use mathlib.Core.Bool.{Bool, true, false, cond, false≢true}
-use mathlib.Core.List.{List, [], _∷_, _++_}
+use mathlib.Core.List.{List, [], _∷_}
 use mathlib.Core.Path.{_≡_, refl, _∙_}
 use Prim.Native.Nat.{ℕ, zero, suc, _+_, _≤_, _<_}
 use native.Mathlib.Omega.{arith}

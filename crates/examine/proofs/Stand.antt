@@ -1,7 +1,7 @@
 -- THE WORDS STAND FOR A QUEUE: an examination and a drop at the words are those of the queue, keep a store sound, and change nothing outside
--- the queue's region; so the walk over the words is the walk of document 01. Assumes nothing.
+-- the queue's region. Assumes nothing.
 use mathlib.Core.Bool.{Bool, true, false, cond, _&&_}
-use mathlib.Core.List.{List, []}
+use mathlib.Core.List.{List}
 use mathlib.Core.Logic.{_≢_}
 use mathlib.Core.Path.{_≡_, refl, ap, fun-ext, _∙_}
 use Prim.Native.Nat.{ℕ, _≤_, _<_}
@@ -16,10 +16,9 @@ use Rattle.evaluate.specs.View.{assigned, listsAt}
 use Rattle.examine.proofs.CacheLaws.{area-cached, length-cached, cache-else, cache-written, never-known-dead, sound-cached}
 use Rattle.examine.proofs.Small.{Small, evaluate-small}
 use Rattle.examine.specs.Cache.{cached, dropped, filled, clauseKey, visitedBy, refreshed, saved, seenAt, visited, wordOperations}
-use Rattle.rules.proofs.Kept.{Stands, words-answer}
-use Rattle.rules.specs.Invariant.{Holds}
-use Rattle.rules.specs.Queue.{fill, keep, queuedFrom, seen, stateIn, unmark}
-use Rattle.rules.specs.Walk.{Environment, active, evaluate, ranks, walk}
+use Rattle.rules.proofs.Following.{Stands}
+use Rattle.rules.specs.Queue.{fill, keep, seen, stateIn, unmark}
+use Rattle.rules.specs.Walk.{Environment, active, evaluate}
 use Rattle.store.proofs.AreaLaws.{apart-inside, area-kept, at-kept, at-put-else, at-put-same, length-put}
 use Rattle.store.proofs.Soundness.{sound-put}
 use Rattle.store.specs.Area.{Area, apart, area, at}
@@ -208,8 +207,3 @@ stands w =
       fill-keeps = λ s k l g. beside-filled s w g k;
       drop-keeps = λ s k l g. beside-dropped s w g k l;
     }
-
--- so the walk over the words of a synced store answers as the walk of document 01, and its words stand for a queue that keeps the invariant
-pub word-walk : (w : List ℕ) → Sound w → Holds (envOf w) (assigned w) [] (queueOf w) →
-    ((queuedFrom wordOperations (envOf w) (ranks (envOf w .size)) 0 w) .out ≡ walk (envOf w) (assigned w)) × (Beside ((queuedFrom wordOperations (envOf w) (ranks (envOf w .size)) 0 w) .left) w × Holds (envOf w) (assigned w) [] (queueOf ((queuedFrom wordOperations (envOf w) (ranks (envOf w .size)) 0 w) .left)))
-word-walk w h q = words-answer wordOperations (envOf w) (assigned w) queueOf (λ s. Beside s w) (stands w) w (beside-self w h) q

@@ -4,16 +4,15 @@ use mathlib.Core.List.{List}
 use mathlib.Core.Logic.{_≢_}
 use mathlib.Core.Path.{_≡_, sym, _∙_}
 use Prim.Native.Nat.{ℕ, _<_}
-use borrow.Author.Tests.{eq-eqb, ne-eqb}
 use Rattle.evaluate.proofs.Records.{clause-word}
-use Rattle.evaluate.specs.Standing.{envOf, cacheBy, cacheOf}
+use Rattle.evaluate.specs.Standing.{envOf, cacheOf}
 use Rattle.evaluate.specs.View.{assigned, listsAt}
 use Rattle.examine.proofs.Clauses.{mark-clear, mark-set}
 use Rattle.examine.specs.Cache.{cached, dropped, filled, clauseKey, metAt, saved, seenAt, visited}
 use Rattle.rules.specs.Queue.{seen, stateIn}
 use Rattle.rules.specs.Walk.{active, evaluate, seenAs}
 use Rattle.store.specs.Area.{at}
-use Rattle.store.specs.Layout.{cacheCandidates, cacheCounts, cacheNames, cacheStates, clauseCount, clauseRequirements, queued}
+use Rattle.store.specs.Layout.{clauseCount, clauseRequirements, queued}
 use Rattle.examine.specs.declared.Met.the-variants.{Unqueued, Dropped, Opened, Dead as MetDead}
 use Rattle.rules.specs.declared.Cache.the-variants.{Dirty, Known}
 use Rattle.rules.specs.declared.Seen.{Seen}

@@ -21,7 +21,7 @@ use Rattle.evaluate.specs.Standing.{markOf, ofClause, storeOf, trailOf}
 use Rattle.evaluate.specs.View.{assigned, literalsAt}
 use Rattle.promises.proofs.Genuine.{Genuine, Mapped, AllLoaded, mapped-frame, all-loaded-by-tables}
 use Rattle.requirement.specs.Tables.{keyAt}
-use Rattle.rules.proofs.Demand.{inserted-above, inserted-at, inserted-below}
+use Rattle.rules.proofs.Ranks.{inserted-above, inserted-at, inserted-below}
 use Rattle.rules.specs.Store.{Reached, behind, inserted, rank, registered as registers-in, registers, then}
 use Rattle.rules.specs.Sync.{value}
 use Rattle.rules.specs.Walk.{isTrue}

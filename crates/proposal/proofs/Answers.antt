@@ -1,15 +1,16 @@
 -- THE PROPOSAL OF A SYNCED STORE IS THE WALK OF DOCUMENT 01. Assumes nothing.
 use mathlib.Core.Bool.{false}
 use mathlib.Core.List.{List, []}
-use mathlib.Core.Path.{_≡_, ap}
+use mathlib.Core.Path.{_≡_, ap, _∙_}
 use Prim.Native.Nat.{ℕ}
 use borrow.Author.Tests.{ltb-false}
 use lib.Dec.{ltb}
 use Rattle.evaluate.proofs.Froms.{length-mirror, length-trail}
 use Rattle.evaluate.specs.Standing.{envOf, queueOf, storeOf}
 use Rattle.evaluate.specs.View.{assigned}
-use Rattle.examine.proofs.Stand.{word-walk}
+use Rattle.proposal.proofs.Kept.{answer-along}
 use Rattle.proposal.specs.Propose.{answer, proposalIn, told, unsynced}
+use Rattle.rules.proofs.Same.{same-walk}
 use Rattle.rules.specs.Invariant.{Holds}
 use Rattle.rules.specs.Store.{Synced}
 use Rattle.rules.specs.Walk.{walk}
@@ -20,10 +21,10 @@ use Rattle.store.specs.Shape.{Sound}
 use Rattle.rules.specs.declared.Out.{Out}
 
 module _ (w : List ℕ) (h : Sound w) (q : Holds (envOf w) (assigned w) [] (queueOf w)) where
-  -- where the queue is right for the assignment, the answer is the walk over every clause
+  -- where the queue is right for the assignment, the answer is the walk over every clause: the words answer as the queue, the queue as the walk
   pub proposal-is : proposalIn w ≡ told w (walk (envOf w) (assigned w)) (answer w .drops)
-  unfolding proposalIn answer
-  proposal-is = ap (λ (o : Out). told w o (answer w .drops)) (word-walk w h q .0)
+  unfolding proposalIn
+  proposal-is = ap (λ (o : Out). told w o (answer w .drops)) (answer-along w h .0 ∙ same-walk (envOf w) (assigned w) (queueOf w) q .0)
 
 -- what is not refused by number 7 is synced, in the words' store too
 module _ (w : List ℕ) (h : Sound w) where

@@ -1,4 +1,4 @@
--- A PROPOSAL KEEPS A STORE SOUND, and changes nothing outside the queue's region. Assumes nothing.
+-- A PROPOSAL GOES ALONG WITH THE QUEUE THAT THE WORDS STAND FOR, and changes nothing outside the queue's region. Assumes nothing.
 use mathlib.Core.Bool.{Bool, true, false, cond}
 use mathlib.Core.List.{List}
 use mathlib.Core.Path.{_≡_, refl}
@@ -32,19 +32,11 @@ module _ (w : List ℕ) where
   answer-beside h = answer-along h .2 .1
 
   -- on any words
-  proposal-left : (P : List ℕ → Type 0) → P w → (Sound w → P (proposalInStore w)) → P (proposalStore w)
-  unfolding proposalStore
-  proposal-left P same step = go (soundShape w) (unsynced w) refl
-    where
-      go : (b c : Bool) → soundShape w ≡ b → P (cond b (cond c w (proposalInStore w)) w)
-      go true true e = same
-      go true false e = step (sound-facts w e)
-      go false c e = same
-
-  pub propose-sound : Sound w → Sound (proposalStore w)
-  unfolding proposalInStore
-  propose-sound h = proposal-left Sound h (λ g. answer-beside g .sound)
-
   pub propose-outside : (a : Area) → T (apart a queueRegion) → area a (proposalStore w) ≡ area a w
-  unfolding proposalInStore
-  propose-outside a p = proposal-left (λ s. area a s ≡ area a w) refl (λ g. answer-beside g .outside a p)
+  unfolding proposalStore proposalInStore
+  propose-outside a p = go (soundShape w) (unsynced w) refl
+    where
+      go : (b c : Bool) → soundShape w ≡ b → area a (cond b (cond c w (answer w .left)) w) ≡ area a w
+      go true true e = refl
+      go true false e = answer-beside (sound-facts w e) .outside a p
+      go false c e = refl

@@ -14,7 +14,6 @@ use Rattle.rules.specs.Queue.{Answer}
 use Rattle.store.specs.Area.{at}
 use Rattle.store.specs.Layout.{clauseCount}
 use Rattle.store.specs.Shape.{Sound}
-use Rattle.examine.specs.declared.Met.the-variants.{Unqueued}
 use Rattle.rules.specs.declared.Best.{Best}
 
 -- a turn of the loop to the next queued clause

@@ -1,10 +1,10 @@
--- DEMAND 3 OVER THE RULES: every step from a fresh store keeps the invariant, and a synced store that has it answers as the walk.
+-- THE INVARIANT OVER THE RULES: every step from a fresh store keeps it, and a synced store that has it answers as the walk.
 -- Assumes nothing.
-use mathlib.Core.Path.{_≡_, refl, ap, sym, _∙_, fun-ext}
+use mathlib.Core.Path.{_≡_, refl, ap, sym, _∙_}
 use mathlib.Core.Bool.{Bool, true, false, cond, _||_, false≢true}
 use mathlib.Core.List.{List, [], _∷_, _++_, append-assoc, append-nil}
 use mathlib.Core.Logic.{_⊎_, inl, inr, ⊎-elim}
-use Prim.Native.Nat.{ℕ, zero, suc, _+_, _-_, _≤_, _<_}
+use Prim.Native.Nat.{ℕ, suc, _+_, _-_, _≤_, _<_}
 use native.Mathlib.Omega.{arith}
 use native.Mathlib.Decide.{decLe}
 use lib.Dec.{T, eqb, eqb→eq, ltb, ltb→lt}
@@ -16,10 +16,11 @@ use Rattle.rules.specs.Walk.{Value, Undecided, isTrue, Literal, Candidat
 use Rattle.rules.specs.Queue.{Cache, Dirty, Known, Queue}
 use Rattle.rules.specs.Sync.{Entry, valueOf, value, variables, meets}
 use Rattle.rules.specs.Invariant.{Reason, queued, idle, moved, held, sated, Fit, Holds}
-use Rattle.rules.specs.Store.{remade, Store, assigned, Synced, pushed, cut, touched, sync, asked, ask, tuned, loaded, behind, rank, inserted, registered, Step, same, push, undo, syncs, asks, tunes, loads, registers, Fresh, Reached, fresh, then}
+use Rattle.rules.specs.Store.{remade, Store, assigned, Synced, pushed, cut, touched, sync, asked, ask, tuned, loaded, rank, registered, Step, same, push, undo, syncs, asks, tunes, loads, registers, Fresh, Reached, fresh, then}
 use Rattle.rules.proofs.Hold.{routes-holds}
 use Rattle.rules.proofs.Move.{member-left, member-right, move}
-use Rattle.rules.proofs.Kept.{ask-holds}
+use Rattle.rules.proofs.Ranks.{behind-most, inserted-above, inserted-at, inserted-below}
+use Rattle.rules.proofs.Same.{same-walk}
 
 -- the trail and the mirror share `base`, the entries below the floor
 pub record Inv (t : Store) : Type 0 where
@@ -81,11 +82,6 @@ pub synced-holds : (t : Store) → Inv t → Synced t → Holds (t .env) (assign
 synced-holds t i s =
     let same-trail : t .trail ≡ i .base = i .trail-is ∙ rw (none-new t i s) (append-nil (i .base)) in
     rw same-trail (rw (none-popped t i s) at (i .holds))
-
--- a synced store answers as the walk
-answers : (t : Store) → Inv t → Synced t → (asked t) .out ≡ walk (t .env) (assigned t)
-answers t i s =
-    ask-holds (t .env) (assigned t) (t .queue) (synced-holds t i s) .0
 
 -- EACH STEP KEEPS THE INVARIANT
 
@@ -183,7 +179,7 @@ ask-inv t s i =
       trail-is = sym (append-nil (t .trail));
       mirror-is = i .mirror-is ∙ rw (none-popped t i s, i .trail-is, none-new t i s, append-nil (i .base));
       floor-is = i .floor-is ∙ rw (i .trail-is, none-new t i s, append-nil (i .base));
-      holds = ask-holds (t .env) (assigned t) (t .queue) (synced-holds t i s) .1;
+      holds = same-walk (t .env) (assigned t) (t .queue) (synced-holds t i s) .1;
     }
 
 -- a clause keeps its reason at another rank
@@ -235,25 +231,6 @@ load-inv t r cs h i =
     at-j j false p = rw p (i .holds .fit j)
 
 -- registering
-pub behind-most : (f : ℕ → ℕ) (p n m : ℕ) → n ≤ m → behind f p n m ≤ m
-unfolding behind
-behind-most f p zero m h = omega arith
-behind-most f p (suc n) m h = go (eqb (f n) p) (behind-most f p n m (omega arith))
-  where
-    go : (b : Bool) → behind f p n m ≤ m → cond b (suc n) (behind f p n m) ≤ m
-    go true ih = h
-    go false ih = ih
-
-module _ {A : Type 0} (f : ℕ → A) (i : ℕ) (x : A) (j : ℕ) where
-  pub inserted-below : ltb j i ≡ true → inserted f i x j ≡ f j
-  inserted-below q = rw q
-
-  pub inserted-at : ltb j i ≡ false → eqb j i ≡ true → inserted f i x j ≡ x
-  inserted-at q h = rw (q, h)
-
-  pub inserted-above : ltb j i ≡ false → eqb j i ≡ false → inserted f i x j ≡ f (j - 1)
-  inserted-above q h = rw (q, h)
-
 register-inv : (t : Store) (p r : ℕ) (w : List Literal) (c : ℕ) → Inv t → Inv (registered t p r w c)
 register-inv t p r w c i =
     remade-inv t _ _ i
@@ -325,11 +302,6 @@ pub reached-inv : (t : Store) → Reached t → Inv t
 reached-inv t (fresh f) = fresh-inv t f
 reached-inv t (then {t = u} r s) = step-inv u t s (reached-inv u r)
 
--- DEMAND 3: the proposal of a reached and synced store is the walk's
-pub demand3 : (t : Store) → Reached t → Synced t → (asked t) .out ≡ walk (t .env) (assigned t)
-demand3 t r s = answers t (reached-inv t r) s
-
--- and so two of them with the same clauses, tables, settings and assignment answer alike
-pub comes-back : (t u : Store) → Reached t → Synced t → Reached u → Synced u → t .env ≡ u .env → ((v : ℕ) → assigned t v ≡ assigned u v) → (asked t) .out ≡ (asked u) .out
-comes-back t u r s q z e a =
-    demand3 t r s ∙ ap (λ (f : Environment). walk f (assigned t)) e ∙ ap (λ (f : ℕ → Value). walk (u .env) f) (fun-ext a) ∙ sym (demand3 u q z)
+-- THE WALK'S ANSWER: the proposal of a reached and synced store is the walk's
+pub asked-is-walk : (t : Store) → Reached t → Synced t → (asked t) .out ≡ walk (t .env) (assigned t)
+asked-is-walk t r s = same-walk (t .env) (assigned t) (t .queue) (synced-holds t (reached-inv t r) s) .0

@@ -1,14 +1,14 @@
--- THE DROPS ARE THE QUEUE'S SIZE BEFORE LESS AFTER. For any state; G is what is known of it. Assumes nothing.
+-- THE DROPS ARE THE QUEUE'S SIZE BEFORE LESS AFTER. Assumes nothing.
 use mathlib.Core.Path.{_≡_, refl, ap, sym, _∙_}
-use mathlib.Core.Bool.{Bool, true, false, cond, _||_, false≢true}
+use mathlib.Core.Bool.{Bool, true, false, _||_}
 use mathlib.Core.List.{List, [], _∷_}
 use Prim.Native.Nat.{ℕ, suc, _+_}
 use native.Mathlib.Omega.{arith}
 use lib.Dec.{eqb, eqb→eq, eqb-refl}
 use Rattle.rules.specs.Walk.{ranks, Value, Environment, Best, best, stops, passedOver, better, Out, Nothing, DeadClause, Choose, member}
-use Rattle.rules.specs.Queue.{Answer, Operations, Queue, answer, propose, queuedFrom, queuedOn, queueOperations}
+use Rattle.rules.specs.Queue.{Answer, Queue, answer, fill, propose, queueOperations, queuedFrom, queuedOn, seen, unmark}
 use Rattle.rules.proofs.Cases.{by-seen, by-test}
-use Rattle.store.proofs.Choice.{is-true, or-right}
+use Rattle.store.proofs.Choice.{is-true, neither, or-right}
 use Rattle.rules.proofs.Ranks.{Once, ranks-once}
 
 abbrev pub bit : Bool → ℕ
@@ -28,130 +28,81 @@ tally-same f g (k ∷ ks) h =
     later : (j : ℕ) → member j ks ≡ true → eqb j k || member j ks ≡ true
     later j t = or-right (eqb j k) (member j ks) t
 
--- what the four operations do to the marks
-record Marks {S : Type 0} (o : Operations S) (G : S → Type 0) : Type 0 where
-  fill-mark : (s : S) (k j : ℕ) → G s → o .mark (o .fill s k) j ≡ o .mark s j
-  drop-mark : (s : S) (k j : ℕ) → G s → o .mark (o .drop s k) j ≡ cond (eqb j k) false (o .mark s j)
-  fill-good : (s : S) (k : ℕ) → G s → G (o .fill s k)
-  drop-good : (s : S) (k : ℕ) → G s → G (o .drop s k)
+-- an answer over ks: other marks stay, and each drop is one mark less
+record Fair (ks : List ℕ) (d : ℕ) (s : Queue) (x : Answer Queue) : Type 0 where
+  others : (j : ℕ) → member j ks ≡ false → x .left .mark j ≡ s .mark j
+  count : tally (s .mark) ks + d ≡ tally (x .left .mark) ks + x .drops
 
-module _ {S : Type 0} (o : Operations S) (e : Environment) (G : S → Type 0) (ok : Marks o G) where
-  -- an answer over ks: other marks stay, and each drop is one mark less
-  record Fair (ks : List ℕ) (d : ℕ) (s : S) (x : Answer S) : Type 0 where
-    others : (j : ℕ) → member j ks ≡ false → o .mark (x .left) j ≡ o .mark s j
-    count : tally (o .mark s) ks + d ≡ tally (o .mark (x .left)) ks + x .drops
+-- the walk ends
+stays : (ks : List ℕ) (d : ℕ) (s q : Queue) (y : Out) → q .mark ≡ s .mark → Fair ks d s (answer y d q)
+stays ks d s q y e = record { others = λ j h. ap (λ (m : ℕ → Bool). m j) e; count = rw e }
 
-  stays : (ks : List ℕ) (d : ℕ) (s : S) (y : Out) → Fair ks d s (answer y d s)
-  stays ks d s y = record { others = λ j h. refl; count = refl }
+module _ (k : ℕ) (ks : List ℕ) (once : Once (k ∷ ks)) (d : ℕ) (s : Queue) (x : Answer Queue) where
+  -- what is not in the list is neither its first nor in the rest
+  outside : (j : ℕ) → member j (k ∷ ks) ≡ false → (eqb j k ≡ false) × (member j ks ≡ false)
+  unfolding member
+  outside j h = neither (eqb j k) (member j ks) h
 
-  module _ (k : ℕ) (ks : List ℕ) (once : Once (k ∷ ks)) (d : ℕ) (s : S) (g : G s) where
-    not-k : (j : ℕ) → member j (k ∷ ks) ≡ false → member j ks ≡ false
-    unfolding member
-    not-k j h = go (eqb j k) h
-      where
-        go : (b : Bool) → b || member j ks ≡ false → member j ks ≡ false
-        go true q = absurd (false≢true (sym q))
-        go false q = q
+  -- a clause of the rest is another one
+  rest-differs : (j : ℕ) → member j ks ≡ true → eqb j k ≡ false
+  rest-differs j h = go (eqb j k) refl
+    where
+      go : (b : Bool) → eqb j k ≡ b → b ≡ false
+      go true q = sym h ∙ rw (eqb→eq j k (rw q tt)) (once .0)
+      go false q = refl
 
-    -- the clause was not examined, or stays
-    skip : (x : Answer S) → Fair ks d s x → Fair (k ∷ ks) d s x
-    unfolding tally
-    skip x f =
-        record {
-          others = λ j h. f .others j (not-k j h);
-          count = rw (f .others k (once .0)) (omega (arith, f .count));
-        }
+  -- the clause was not examined, or stays in a queue of the same marks
+  skip : (q : Queue) → q .mark ≡ s .mark → Fair ks d q x → Fair (k ∷ ks) d s x
+  unfolding tally
+  skip q e f =
+      record {
+        others = λ j h. f .others j (outside j h .1) ∙ ap (λ (m : ℕ → Bool). m j) e;
+        count = rw (f .others k (once .0), sym e) (omega (arith, f .count));
+      }
 
-    -- its cache was filled
-    filled : (x : Answer S) → Fair (k ∷ ks) d (o .fill s k) x → Fair (k ∷ ks) d s x
-    filled x f =
-        record {
-          others = λ j h. f .others j h ∙ ok .fill-mark s k j g;
-          count = sym (ap (λ (n : ℕ). n + d) (tally-same (o .mark (o .fill s k)) (o .mark s) (k ∷ ks) (λ j t. ok .fill-mark s k j g))) ∙ f .count;
-        }
+  -- it was dropped from a queue of the same marks
+  dropped : (q : Queue) → q .mark ≡ s .mark → s .mark k ≡ true → Fair ks (suc d) (unmark q k) x → Fair (k ∷ ks) d s x
+  unfolding tally
+  dropped q e m f =
+      record {
+        others = λ j h. f .others j (outside j h .1) ∙ after j (outside j h .0);
+        count =
+            rw (m, f .others k (once .0), is-true (eqb k k) (eqb-refl k), unmark)
+            (omega (arith, f .count, tally-same ((unmark q k) .mark) (s .mark) ks (λ j t. after j (rest-differs j t))));
+      }
+    where
+      after : (j : ℕ) → eqb j k ≡ false → (unmark q k) .mark j ≡ s .mark j
+      after j h = rw (h, unmark) (ap (λ (m : ℕ → Bool). m j) e)
 
-    differs : (j : ℕ) → member j (k ∷ ks) ≡ false → eqb j k ≡ false
-    unfolding member
-    differs j h = go (eqb j k) h
-      where
-        go : (b : Bool) → b || member j ks ≡ false → b ≡ false
-        go true q = q
-        go false q = refl
-
-    -- a clause of the rest is another one
-    rest-differs : (j : ℕ) → member j ks ≡ true → eqb j k ≡ false
-    rest-differs j h = go (eqb j k) refl
-      where
-        go : (b : Bool) → eqb j k ≡ b → b ≡ false
-        go true q = sym h ∙ rw (eqb→eq j k (rw q tt)) (once .0)
-        go false q = refl
-
-    after-drop : (j : ℕ) → eqb j k ≡ false → o .mark (o .drop (o .fill s k) k) j ≡ o .mark s j
-    after-drop j h = ok .drop-mark (o .fill s k) k j (ok .fill-good s k g) ∙ rw h (ok .fill-mark s k j g)
-
-    gone-now : o .mark (o .drop (o .fill s k) k) k ≡ false
-    gone-now = ok .drop-mark (o .fill s k) k k (ok .fill-good s k g) ∙ rw (is-true (eqb k k) (eqb-refl k))
-
-    dropped : (x : Answer S) → o .mark s k ≡ true → Fair ks (suc d) (o .drop (o .fill s k) k) x → Fair (k ∷ ks) d s x
-    unfolding tally
-    dropped x m f =
-        record {
-          others = λ j h. f .others j (not-k j h) ∙ after-drop j (differs j h);
-          count =
-              rw (m, f .others k (once .0), gone-now)
-              (omega (arith, f .count, tally-same (o .mark (o .drop (o .fill s k) k)) (o .mark s) ks (λ j t. after-drop j (rest-differs j t))));
-        }
-
-  fair-on : (b : Best) (ks : List ℕ) → Once ks → (d : ℕ) (s : S) → G s → Fair ks d s (queuedOn o e b ks d s)
+module _ (e : Environment) (a : ℕ → Value) where
+  fair-on : (b : Best) (ks : List ℕ) → Once ks → (d : ℕ) (s : Queue) → Fair ks d s (queuedOn (queueOperations e a) e b ks d s)
   unfolding queuedOn
-  fair-on b [] once d s g = stays [] d s (Choose b)
-  fair-on b (k ∷ ks) once d s g =
-      let good : G (o .fill s k) = ok .fill-good s k g in
-      by-test (Fair (k ∷ ks) d s) (stops e b) _ _ (λ h. stays (k ∷ ks) d s (Choose b))
+  fair-on b [] once d s = stays [] d s s (Choose b) refl
+  fair-on b (k ∷ ks) once d s =
+      by-test (Fair (k ∷ ks) d s) (stops e b) _ _ (λ h. stays (k ∷ ks) d s s (Choose b) refl)
       (λ h.
-      by-test (Fair (k ∷ ks) d s) (passedOver e b k) _ _ (λ i. skip k ks once d s g _ (fair-on b ks (once .1) d s g))
+      by-test (Fair (k ∷ ks) d s) (passedOver e b k) _ _ (λ i. skip k ks once d s _ s refl (fair-on b ks (once .1) d s))
       (λ i.
-      by-test (Fair (k ∷ ks) d s) (o .mark s k) _ _
+      by-test (Fair (k ∷ ks) d s) (s .mark k) _ _
       (λ m.
-      by-seen (Fair (k ∷ ks) d s) (o .seen s k) _ _ _
-      (λ q. dropped k ks once d s g _ m (fair-on b ks (once .1) (suc d) (o .drop (o .fill s k) k) (ok .drop-good (o .fill s k) k good)))
-      (λ c n z q.
-      filled k ks once d s g _ (skip k ks once d (o .fill s k) good _ (fair-on (better b (best e k c n z)) ks (once .1) d (o .fill s k) good)))
-      (λ q. filled k ks once d s g _ (stays (k ∷ ks) d (o .fill s k) (DeadClause (e .clauseId k)))))
-      (λ m. skip k ks once d s g _ (fair-on b ks (once .1) d s g))))
+      by-seen (Fair (k ∷ ks) d s) (seen e a s k) _ _ _
+      (λ q. dropped k ks once d s _ (fill e a s k) refl m (fair-on b ks (once .1) (suc d) (unmark (fill e a s k) k)))
+      (λ c n z q. skip k ks once d s _ (fill e a s k) refl (fair-on (better b (best e k c n z)) ks (once .1) d (fill e a s k)))
+      (λ q. stays (k ∷ ks) d s (fill e a s k) (DeadClause (e .clauseId k)) refl))
+      (λ m. skip k ks once d s _ s refl (fair-on b ks (once .1) d s))))
 
-  fair-from : (ks : List ℕ) → Once ks → (d : ℕ) (s : S) → G s → Fair ks d s (queuedFrom o e ks d s)
+  fair-from : (ks : List ℕ) → Once ks → (d : ℕ) (s : Queue) → Fair ks d s (queuedFrom (queueOperations e a) e ks d s)
   unfolding queuedFrom
-  fair-from [] once d s g = stays [] d s Nothing
-  fair-from (k ∷ ks) once d s g =
-      let good : G (o .fill s k) = ok .fill-good s k g in
-      by-test (Fair (k ∷ ks) d s) (o .mark s k) _ _
+  fair-from [] once d s = stays [] d s s Nothing refl
+  fair-from (k ∷ ks) once d s =
+      by-test (Fair (k ∷ ks) d s) (s .mark k) _ _
       (λ m.
-      by-seen (Fair (k ∷ ks) d s) (o .seen s k) _ _ _
-      (λ q. dropped k ks once d s g _ m (fair-from ks (once .1) (suc d) (o .drop (o .fill s k) k) (ok .drop-good (o .fill s k) k good)))
-      (λ c n z q. filled k ks once d s g _ (skip k ks once d (o .fill s k) good _ (fair-on (best e k c n z) ks (once .1) d (o .fill s k) good)))
-      (λ q. filled k ks once d s g _ (stays (k ∷ ks) d (o .fill s k) (DeadClause (e .clauseId k)))))
-      (λ m. skip k ks once d s g _ (fair-from ks (once .1) d s g))
+      by-seen (Fair (k ∷ ks) d s) (seen e a s k) _ _ _
+      (λ q. dropped k ks once d s _ (fill e a s k) refl m (fair-from ks (once .1) (suc d) (unmark (fill e a s k) k)))
+      (λ c n z q. skip k ks once d s _ (fill e a s k) refl (fair-on (best e k c n z) ks (once .1) d (fill e a s k)))
+      (λ q. stays (k ∷ ks) d s (fill e a s k) (DeadClause (e .clauseId k)) refl))
+      (λ m. skip k ks once d s _ s refl (fair-from ks (once .1) d s))
 
-  -- THE DROPS: the size of the queue before is the size after and the drops
-  drops-are : (s : S) → G s →
-      tally (o .mark s) (ranks (e .size)) ≡ tally (o .mark ((queuedFrom o e (ranks (e .size)) 0 s) .left)) (ranks (e .size)) + (queuedFrom o e (ranks (e .size)) 0 s) .drops
-  drops-are s g = omega (arith, (fair-from (ranks (e .size)) (ranks-once (e .size)) 0 s g) .count)
-
-queue-marks : (e : Environment) (a : ℕ → Value) → Marks (queueOperations e a) (λ s. Unit {0})
-queue-marks e a =
-    record {
-      fill-mark = λ s k j g. refl;
-      drop-mark = λ s k j g. by (eqb j k) (s .mark j);
-      fill-good = λ s k g. tt;
-      drop-good = λ s k g. tt;
-    }
-  where
-    by : (b m : Bool) → _≡_ {A = Bool} (elim b [ true ↦ false | false ↦ m ]) (cond b false m)
-    by true m = refl
-    by false m = refl
-
--- THE DROPS of a proposal: the queue's size before is its size after and the drops
-pub drops-of : (e : Environment) (a : ℕ → Value) (s : Queue) →
-    tally (s .mark) (ranks (e .size)) ≡ tally ((propose e a s) .left .mark) (ranks (e .size)) + (propose e a s) .drops
-drops-of e a s = drops-are (queueOperations e a) e (λ s. Unit {0}) (queue-marks e a) s tt
+  -- THE DROPS of a proposal: the queue's size before is its size after and the drops
+  pub drops-of : (s : Queue) → tally (s .mark) (ranks (e .size)) ≡ tally ((propose e a s) .left .mark) (ranks (e .size)) + (propose e a s) .drops
+  drops-of s = omega (arith, (fair-from (ranks (e .size)) (ranks-once (e .size)) 0 s) .count)

@@ -5,7 +5,6 @@ use mathlib.Core.List.{List, [], _∷_}
 use mathlib.Core.Path.{_≡_, refl, ap, sym, _∙_}
 use Prim.Native.Nat.{ℕ, suc, _<_}
 use Rattle.rules.proofs.Cases.{by-seen, by-test}
-use Rattle.rules.proofs.Kept.{Stands}
 use Rattle.rules.proofs.Ranks.{Below, below-head, below-tail, ranks-below}
 use Rattle.rules.specs.Queue.{Answer, Operations, Queue, fill, queueOperations, queuedFrom, queuedOn, seen, unmark}
 use Rattle.rules.specs.Walk.{Environment, best, better, passedOver, ranks, stops}
@@ -72,7 +71,16 @@ module _ {S : Type 0} {Q : Type 0} (o : Operations S) (p : Operations Q) (e : En
   pub both-walk : (s : S) (q : Q) → R s q → Both (queuedFrom p e (ranks (e .size)) 0 q) (queuedFrom o e (ranks (e .size)) 0 s)
   both-walk s q r = both-from (ranks (e .size)) 0 s q (ranks-below (e .size)) r
 
--- words that stand for a queue follow it
+-- a state such as a store's words stands for a queue where its four operations are those of that queue; K is what its shape keeps
+pub record Stands {S : Type 0} (o : Operations S) (e : Environment) (a : ℕ → Value) (f : S → Queue) (K : S → Type 0) : Type 0 where
+  pub mark-is : (s : S) (k : ℕ) → k < e .size → K s → o .mark s k ≡ (f s) .mark k
+  pub seen-is : (s : S) (k : ℕ) → k < e .size → K s → o .seen s k ≡ seen e a (f s) k
+  pub fill-is : (s : S) (k : ℕ) → k < e .size → K s → f (o .fill s k) ≡ fill e a (f s) k
+  pub drop-is : (s : S) (k : ℕ) → k < e .size → K s → f (o .drop s k) ≡ unmark (f s) k
+  pub fill-keeps : (s : S) (k : ℕ) → k < e .size → K s → K (o .fill s k)
+  pub drop-keeps : (s : S) (k : ℕ) → k < e .size → K s → K (o .drop s k)
+
+-- so it follows it
 pub stands-follow : {S : Type 0} (o : Operations S) (e : Environment) (a : ℕ → Value) (f : S → Queue) (K : S → Type 0) → Stands o e a f K →
     Follows o (queueOperations e a) e (λ s q. (f s ≡ q) × K s)
 stands-follow o e a f K x =

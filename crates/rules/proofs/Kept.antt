@@ -1,16 +1,15 @@
--- A PROPOSAL KEEPS THE INVARIANT and answers as the walk: over a queue, and over any state that stands for one. Assumes nothing.
-use mathlib.Core.Path.{_≡_, refl, ap, sym, _∙_}
+-- AN EXAMINATION KEEPS THE INVARIANT and finds what is there; so does the drop of a clause that is not open. Assumes nothing.
+use mathlib.Core.Path.{_≡_, refl, sym, _∙_}
 use mathlib.Core.Bool.{Bool, true, false, not, cond, _&&_, _||_, false≢true}
 use mathlib.Core.List.{List, [], _∷_}
-use mathlib.Core.Logic.{_⊎_, inr, ⊎-elim}
+use mathlib.Core.Logic.{inr, ⊎-elim}
 use Prim.Native.Nat.{ℕ, _<_}
 use lib.Dec.{T, eqb, eqb→eq, eqb-refl}
-use Rattle.rules.specs.Walk.{ranks, Value, Undecided, True, False, isTrue, Literal, literalFalse, allFalse, CandidateList, flattened, Found, At, Nowhere, firstTrue, firstUndecided, countUndecided, frontier, orElse, orNext, State, Satisfied, Frontier, Dead, evaluate, Shut, seenAs, Environment, active, walk, member}
-use Rattle.rules.specs.Queue.{Cache, Dirty, Known, Queue, unmark, stateIn, keep, seen, fill, Operations, queueOperations, queuedFrom, propose}
+use Rattle.rules.specs.Walk.{Value, Undecided, True, False, isTrue, Literal, literalFalse, allFalse, CandidateList, flattened, Found, At, Nowhere, firstTrue, firstUndecided, countUndecided, frontier, orElse, orNext, State, Satisfied, Frontier, Dead, evaluate, Shut, seenAs, Environment, active, look, member}
+use Rattle.rules.specs.Queue.{Cache, Dirty, Known, Queue, unmark, stateIn, keep, seen, fill}
 use Rattle.rules.specs.Invariant.{heldBy, Reason, queued, idle, moved, held, sated, Fit, Holds}
 use Rattle.store.proofs.Choice.{is-true, or-inr}
 use Rattle.rules.proofs.Ranks.{member-head}
-use Rattle.rules.proofs.Same.{Sound, same-walk}
 use Rattle.rules.proofs.Hold.{holds-covers, seen-look}
 
 hit-true : (a : ℕ → Value) (x : ℕ) (vs : List ℕ) → firstTrue a vs ≡ At x → T (member x vs) × (a x ≡ True)
@@ -120,7 +119,14 @@ module _ (e : Environment) (a : ℕ → Value) (s : Queue) (h : Holds e a [] s) 
   drop-holds : seen e a s k ≡ Shut → Holds e a [] (unmark (fill e a s k) k)
   drop-holds p = record { reason = λ j t. drop-other j p (fill-holds .reason j t); fit = fill-holds .fit }
 
-pub sound : (e : Environment) (a : ℕ → Value) → Sound (queueOperations e a) e a (λ s. Holds e a [] s)
+-- WHAT A WALK OVER THE QUEUED CLAUSES RELIES ON, where the invariant holds and nothing is left to route
+pub record Sound (e : Environment) (a : ℕ → Value) : Type 0 where
+  pub sees : (s : Queue) (k : ℕ) → k < e .size → Holds e a [] s → seen e a s k ≡ look e a k
+  pub covers : (s : Queue) (k : ℕ) → k < e .size → Holds e a [] s → s .mark k ≡ false → look e a k ≡ Shut
+  pub fills : (s : Queue) (k : ℕ) → k < e .size → Holds e a [] s → Holds e a [] (fill e a s k)
+  pub drops : (s : Queue) (k : ℕ) → k < e .size → Holds e a [] s → look e a k ≡ Shut → Holds e a [] (unmark (fill e a s k) k)
+
+pub sound : (e : Environment) (a : ℕ → Value) → Sound e a
 sound e a =
     record {
       sees = λ s k t h. seen-look e a s k h;
@@ -128,35 +134,3 @@ sound e a =
       fills = λ s k t h. fill-holds e a s h k;
       drops = λ s k t h p. drop-holds e a s h k (seen-look e a s k h ∙ p);
     }
-
--- A SYNCED QUEUE answers as the walk, and the invariant is kept
-pub ask-holds : (e : Environment) (a : ℕ → Value) (s : Queue) → Holds e a [] s → ((propose e a s) .out ≡ walk e a) × Holds e a [] ((propose e a s) .left)
-ask-holds e a s h = same-walk (queueOperations e a) e a (λ u. Holds e a [] u) (sound e a) s h
-
--- ANY OTHER STATE, such as a store's words: where its four operations are those of the queue that it stands for, it is sound too.
--- K is what the state's shape keeps.
-pub record Stands {S : Type 0} (o : Operations S) (e : Environment) (a : ℕ → Value) (f : S → Queue) (K : S → Type 0) : Type 0 where
-  pub mark-is : (s : S) (k : ℕ) → k < e .size → K s → o .mark s k ≡ (f s) .mark k
-  pub seen-is : (s : S) (k : ℕ) → k < e .size → K s → o .seen s k ≡ seen e a (f s) k
-  pub fill-is : (s : S) (k : ℕ) → k < e .size → K s → f (o .fill s k) ≡ fill e a (f s) k
-  pub drop-is : (s : S) (k : ℕ) → k < e .size → K s → f (o .drop s k) ≡ unmark (f s) k
-  pub fill-keeps : (s : S) (k : ℕ) → k < e .size → K s → K (o .fill s k)
-  pub drop-keeps : (s : S) (k : ℕ) → k < e .size → K s → K (o .drop s k)
-
-stands-sound : {S : Type 0} (o : Operations S) (e : Environment) (a : ℕ → Value) (f : S → Queue) (K : S → Type 0) → Stands o e a f K → Sound o e a (λ s. K s × Holds e a [] (f s))
-stands-sound o e a f K x =
-    record {
-      sees = λ s k t g. x .seen-is s k t (g .0) ∙ sound e a .sees (f s) k t (g .1);
-      covers = λ s k t g m. sound e a .covers (f s) k t (g .1) (sym (x .mark-is s k t (g .0)) ∙ m);
-      fills = λ s k t g. (x .fill-keeps s k t (g .0), rw (x .fill-is s k t (g .0)) (sound e a .fills (f s) k t (g .1)));
-      drops =
-          λ s k t g p. (
-            x .drop-keeps (o .fill s k) k t (x .fill-keeps s k t (g .0)),
-            rw (x .drop-is (o .fill s k) k t (x .fill-keeps s k t (g .0)) ∙ ap (λ (q : Queue). unmark q k) (x .fill-is s k t (g .0))) (sound e a .drops (f s) k t (g .1) p),
-          );
-    }
-
--- so the walk over the words answers as the walk of document 01, and its words stand for a queue that keeps the invariant
-pub words-answer : {S : Type 0} (o : Operations S) (e : Environment) (a : ℕ → Value) (f : S → Queue) (K : S → Type 0) → Stands o e a f K → (s : S) → K s → Holds e a [] (f s) →
-    ((queuedFrom o e (ranks (e .size)) 0 s) .out ≡ walk e a) × (K ((queuedFrom o e (ranks (e .size)) 0 s) .left) × Holds e a [] (f ((queuedFrom o e (ranks (e .size)) 0 s) .left)))
-words-answer o e a f K x s k h = same-walk o e a (λ s. K s × Holds e a [] (f s)) (stands-sound o e a f K x) s (k, h)

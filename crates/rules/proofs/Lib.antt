@@ -1,12 +1,12 @@
 pub mod Cases
 pub mod Ranks
-pub mod Same
 pub mod Hold
 pub mod Move
 pub mod Kept
+pub mod Same
 pub mod Demand
 pub mod Modes
-pub mod Edges
+pub mod WrongTurns
 pub mod Nothing
 pub mod Map
 pub mod Drops

@@ -11,10 +11,9 @@ use Rattle.store.proofs.Choice.{or-none, or-true, and-none}
 use Rattle.rules.specs.Walk.{Literal, ranksFrom, ranks}
 use Rattle.rules.specs.Store.{Store, changed, behind, rank, inserted, registered, Step, same, push, undo, syncs, asks, tunes, loads, registers, Fresh, Reached, fresh, then}
 use Rattle.rules.specs.Position.{parentsInOrder, clausesOfAll, byPosition, History, noHistory, filed, after, history, InPosition}
-use Rattle.rules.proofs.Ranks.{Below, below-head, below-tail}
+use Rattle.rules.proofs.Ranks.{Below, behind-most, below-head, below-tail, inserted-above, inserted-at, inserted-below}
 use Rattle.rules.proofs.Position.{anyOf, insertBehind, any-append, eqb-self}
 use Rattle.rules.proofs.Order.{register-order, all-below}
-use Rattle.rules.proofs.Demand.{behind-most, inserted-below, inserted-at, inserted-above}
 
 unfoldable insertAt : {A : Type 0} → ℕ → A → List A → List A
 insertAt zero x xs = x ∷ xs

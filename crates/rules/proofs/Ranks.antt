@@ -1,13 +1,15 @@
--- Members of lists; the ranks of n clauses are the numbers below n, each once. Assumes nothing.
+-- Members of lists; the ranks of n clauses are the numbers below n, each once; the rank of a new clause, and what is inserted there.
+-- Assumes nothing.
 use mathlib.Core.Path.{_≡_, refl, ap}
-use mathlib.Core.Bool.{Bool, true, false, _||_}
+use mathlib.Core.Bool.{Bool, true, false, cond, _||_}
 use mathlib.Core.List.{List, [], _∷_, map}
 use mathlib.Core.Logic.{_⊎_, inl, inr}
-use Prim.Native.Nat.{ℕ, zero, suc, _+_, _≤_, _<_}
+use Prim.Native.Nat.{ℕ, zero, suc, _+_, _-_, _≤_, _<_}
 use native.Mathlib.Omega.{arith}
 use native.Mathlib.Decide.{decLe}
-use lib.Dec.{T, eqb, eqb→eq, eqb-refl}
+use lib.Dec.{T, eqb, eqb→eq, eqb-refl, ltb}
 use Rattle.rules.specs.Walk.{member, ranksFrom, ranks}
+use Rattle.rules.specs.Store.{behind, inserted}
 use Rattle.store.proofs.Choice.{or-inl, or-inr, or-cases}
 
 pub member-head : (v : ℕ) (vs : List ℕ) → T (member v (v ∷ vs))
@@ -92,3 +94,24 @@ module _ {A : Type 0} (g f : ℕ → A) where
 
   pub at-rank : (n k : ℕ) → map g (ranks n) ≡ map f (ranks n) → k < n → g k ≡ f k
   at-rank n k h l = from-at 0 n k h (omega arith) (omega arith)
+
+-- the rank of a new clause is at most the number of clauses
+pub behind-most : (f : ℕ → ℕ) (p n m : ℕ) → n ≤ m → behind f p n m ≤ m
+unfolding behind
+behind-most f p zero m h = omega arith
+behind-most f p (suc n) m h = go (eqb (f n) p) (behind-most f p n m (omega arith))
+  where
+    go : (b : Bool) → behind f p n m ≤ m → cond b (suc n) (behind f p n m) ≤ m
+    go true ih = h
+    go false ih = ih
+
+-- what is inserted at a rank leaves what is below it, and moves the rest one further on
+module _ {A : Type 0} (f : ℕ → A) (i : ℕ) (x : A) (j : ℕ) where
+  pub inserted-below : ltb j i ≡ true → inserted f i x j ≡ f j
+  inserted-below q = rw q
+
+  pub inserted-at : ltb j i ≡ false → eqb j i ≡ true → inserted f i x j ≡ x
+  inserted-at q h = rw (q, h)
+
+  pub inserted-above : ltb j i ≡ false → eqb j i ≡ false → inserted f i x j ≡ f (j - 1)
+  inserted-above q h = rw (q, h)

@@ -36,10 +36,6 @@ module _ (w W : List ℕ) (h : Sound w) where
 
 -- the caches
 module _ (w W : List ℕ) where
-  pub spoiled-length : length (spoiledWords w W) ≡ length w
-  unfolding spoiledWords
-  spoiled-length = length-sweep cacheStates (spoilsAt w W) 0 w requirements (omega arith)
-
   pub spoiled-area : (b : Area) → T (apart b cacheStates) → area b (spoiledWords w W) ≡ area b w
   unfolding spoiledWords
   spoiled-area b t = area-sweep cacheStates (spoilsAt w W) 0 w b t requirements (omega arith)
@@ -50,10 +46,6 @@ module _ (w W : List ℕ) where
 
 -- both
 module _ (w W : List ℕ) (h : Sound w) where
-  pub swept-length : length (sweptWords w W) ≡ length w
-  unfolding sweptWords
-  swept-length = spoiled-length (wokenWords w W) W ∙ woken-length w W h
-
   pub swept-area : (b : Area) → T (apart b queueRegion) → area b (sweptWords w W) ≡ area b w
   unfolding sweptWords
   swept-area b t = spoiled-area (wokenWords w W) W b (apart-inside b cacheStates queueRegion t tt) ∙ woken-area w W h b (apart-inside b queued queueRegion t tt)
@@ -136,10 +128,6 @@ module _ (w : List ℕ) (h : Sound w) where
   pub sync-sound : Sound (syncInStore w)
   unfolding syncInStore
   sync-sound = mirrored-sound (sweptWords w (touchedIn w)) (swept-sound w (touchedIn w) h)
-
-  pub sync-length : length (syncInStore w) ≡ length w
-  unfolding syncInStore
-  sync-length = mirrored-length (sweptWords w (touchedIn w)) (swept-sound w (touchedIn w) h) ∙ swept-length w (touchedIn w) h
 
   pub sync-outside : (a : Area) → T (apart a queueRegion) → T (apart a mirrorRegion) → T (apart a syncFloor) → area a (syncInStore w) ≡ area a w
   unfolding syncInStore

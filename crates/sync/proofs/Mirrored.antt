@@ -4,7 +4,7 @@ use mathlib.Core.Path.{_≡_, refl, sym, ap, _∙_}
 use Prim.Native.Nat.{ℕ, zero, suc, _+_, _-_, _*_, _≤_, _<_}
 use native.Mathlib.Nat.{zero-add}
 use native.Mathlib.Omega.{arith}
-use lib.ListN.{length, getD, take, drop, length-append}
+use lib.ListN.{length, take, drop}
 use Rattle.evaluate.specs.Standing.{entryAt, trailOf, mirrorOf, storeOf}
 use Rattle.evaluate.specs.View.{from}
 use Rattle.rules.specs.Store.{touched}
@@ -15,7 +15,7 @@ use Rattle.store.specs.Area.{at, put}
 use Rattle.store.specs.Layout.{mirror, mirrorLength, syncFloor, trailLength, trailVariables, trailValues}
 use Rattle.store.specs.Limits.{trailRoom}
 use Rattle.store.specs.Shape.{Sound}
-use Rattle.evaluate.proofs.Froms.{area-from, drop-from, from-agree, from-append, from-same, getD-from, length-from, length-mirror, length-trail, take-from}
+use Rattle.evaluate.proofs.Froms.{area-from, drop-from, from-agree, from-append, from-same, getD-from, length-mirror, length-trail, take-from}
 use Rattle.sync.proofs.Kept.{length-new, copies-fit, mirrored-at, new-length, mirrored-sound}
 use Rattle.sync.specs.Sync.{wordsFrom, oldEntries, newEntries, touchedIn, touchesIn, copiedWords, mirroredWords}
 
@@ -51,15 +51,6 @@ module _ (w : List ℕ) (h : Sound w) where
   pub touches-are : touchesIn w ≡ length (mirrorOf w) + length (trailOf w) - 2 * at syncFloor 0 w
   unfolding touchesIn
   touches-are = rw (length-mirror w h, length-trail w) (omega (arith, h .floor-mirror, h .floor-trail))
-
-  pub touches-count : touchesIn w ≡ length (touchedIn w)
-  unfolding touchesIn touchedIn oldEntries newEntries wordsFrom
-  touches-count =
-      rw (
-        length-append (from (λ k. at mirror k w) (at syncFloor 0 w) (at mirrorLength 0 w - at syncFloor 0 w)) (from (λ k. at trailVariables k w) (at syncFloor 0 w) (at trailLength 0 w - at syncFloor 0 w)),
-        length-from (λ k. at mirror k w) (at syncFloor 0 w) (at mirrorLength 0 w - at syncFloor 0 w),
-        length-from (λ k. at trailVariables k w) (at syncFloor 0 w) (at trailLength 0 w - at syncFloor 0 w),
-      )
 
 -- THE NEW MIRROR
 module _ (w : List ℕ) (h : Sound w) where

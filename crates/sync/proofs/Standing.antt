@@ -1,20 +1,19 @@
 -- THE SYNC OF THE WORDS IS DOCUMENT 01'S: the words that it leaves stand for the synced store. Assumes nothing.
 use mathlib.Core.List.{List, _++_}
-use mathlib.Core.Path.{_≡_, sym, ap, _∙_, fun-ext, subst}
+use mathlib.Core.Path.{_≡_, sym, ap, _∙_, fun-ext}
 use Prim.Native.Nat.{ℕ}
-use native.Mathlib.Omega.{arith}
 use lib.Dec.{T}
-use lib.ListN.{length, take, drop}
+use lib.ListN.{take, drop}
 use Rattle.evaluate.proofs.Frames.{env-same, assigned-same, queue-same, trail-same, mirror-same}
 use Rattle.evaluate.specs.Standing.{envOf, queueOf, trailOf, mirrorOf, storeOf}
 use Rattle.evaluate.specs.View.{assigned}
-use Rattle.rules.specs.Store.{Step, Synced, sync, syncs, touched}
+use Rattle.rules.specs.Store.{sync, touched}
 use Rattle.rules.specs.Sync.{value, variables, routes}
 use Rattle.store.specs.Area.{Area, at, apart}
 use Rattle.store.specs.Layout.{mirrorLength, syncFloor, trailLength, map, clauseCount, environmentRegion, mirrorRegion, queueRegion, trailRegion}
 use Rattle.store.specs.Shape.{Sound}
-use Rattle.sync.proofs.Kept.{swept-area, swept-sound, mirrored-area, mirrored-at, new-floor, new-length, sync-sound, sync-outside}
-use Rattle.evaluate.proofs.Froms.{length-mirror, length-trail}
+use Rattle.sync.proofs.Kept.{swept-area, swept-sound, mirrored-area, mirrored-at, new-floor, new-length, sync-outside}
+use Rattle.evaluate.proofs.Froms.{length-trail}
 use Rattle.sync.proofs.Mirrored.{touched-is, mirror-is, trail-kept}
 use Rattle.sync.proofs.Swept.{sweep-is}
 use Rattle.sync.specs.Sync.{touchedIn, sweptWords, mirroredWords, syncInStore}
@@ -67,16 +66,6 @@ module _ (w : List ℕ) (h : Sound w) where
   unfolding syncInStore
   sync-floor = new-floor s sound ∙ swept-at trailLength tt 0
 
-  -- a store that was just synced is synced
-  pub sync-synced : Synced (storeOf (syncInStore w))
-  sync-synced =
-      let after = sync-sound w h in
-      let mirrors = length-mirror (syncInStore w) after ∙ sync-mirror-length in
-      record {
-        none-popped = omega (arith, mirrors, sync-floor);
-        none-pushed = omega (arith, mirrors, ap length sync-trail ∙ length-trail w);
-      }
-
   -- where the map holds what the trail says, the words stand for the synced store
   pub sync-stands : ((v : ℕ) → assigned w v ≡ value (trailOf w) v) → storeOf (syncInStore w) ≡ sync (storeOf w)
   sync-stands told =
@@ -94,7 +83,3 @@ module _ (w : List ℕ) (h : Sound w) where
           sync-is
           ∙ ap (λ (a : ℕ → Value). routes (envOf w) a (touchedIn w) (queueOf w)) (fun-ext told)
           ∙ ap (λ (W : List ℕ). routes (envOf w) (value (trailOf w)) W (queueOf w)) (touched-is w h)
-
-  -- so a sync at the words is the rules' step
-  pub sync-step : ((v : ℕ) → assigned w v ≡ value (trailOf w) v) → Step (storeOf w) (storeOf (syncInStore w))
-  sync-step told = subst (Step (storeOf w)) (sym (sync-stands told)) syncs

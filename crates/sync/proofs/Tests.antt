@@ -6,9 +6,9 @@ use mathlib.Core.Logic.{_≢_, ⊎-elim}
 use mathlib.Core.Path.{_≡_, refl, sym, ap, _∙_, fun-ext}
 use Prim.Native.Nat.{ℕ, _≤_, _<_}
 use native.Mathlib.Omega.{arith}
-use borrow.Author.Tests.{eq-eqb, ne-eqb, lt-ltb, le-ltb}
+use borrow.Author.Tests.{lt-ltb, le-ltb}
 use Rattle.evaluate.proofs.Frames.{lists-same, env-same, assigned-same}
-use Rattle.evaluate.specs.Standing.{ofClause, envOf, cacheBy, cacheOf, markOf, queueOf}
+use Rattle.evaluate.specs.Standing.{ofClause, envOf, cacheOf, markOf, queueOf}
 use Rattle.evaluate.specs.View.{assigned, listsAt, literalsAt}
 use Rattle.rules.proofs.Sweeps.{meets-same, touches-same, broken-same}
 use Rattle.rules.specs.Sweep.{touches, woken}
@@ -19,7 +19,7 @@ use Rattle.rules.specs.declared.Cache.the-variants.{Dirty, Known}
 use Rattle.rules.specs.declared.State.the-variants.{Satisfied, Frontier, Dead}
 use Rattle.evaluate.proofs.Records.{clause-word, cache-dirty, cache-satisfied, cache-frontier}
 use Rattle.store.proofs.Choice.{eq-or}
-use Rattle.store.specs.Area.{Area, area, at}
+use Rattle.store.specs.Area.{area, at}
 use Rattle.store.proofs.AreaLaws.{area-same}
 use Rattle.store.specs.Layout.{cacheStates, cacheCandidates, cacheNames, cacheCounts, map, clauseCount, clauseParents, clauseRequirements, clauseConditions, environmentRegion, tablesRegion}
 use Rattle.sync.specs.Sync.{brokenAt, wakesAt, spoilsBy, spoilsAt}

@@ -1,6 +1,6 @@
 -- The loops of a sync and how its steps join. Assumes nothing.
 use mathlib.Core.Bool.{Bool, true, false}
-use mathlib.Core.List.{List, [], _∷_, _++_}
+use mathlib.Core.List.{List}
 use mathlib.Core.Logic.{⊎-elim}
 use mathlib.Core.Path.{_≡_, refl, sym, ap, _∙_}
 use Prim.Native.Nat.{ℕ, _+_, _-_, _≤_, _<_}
@@ -14,8 +14,8 @@ use Rattle.store.proofs.AreaLaws.{at-is, length-area, length-put, area-kept}
 use Rattle.store.proofs.Choice.{lt-or}
 use Rattle.store.proofs.Counting.{every-at}
 use Rattle.store.specs.Area.{Area, area, at, put, putRun, Fits, apart}
-use Rattle.store.specs.Layout.{queued, cacheStates, cacheCandidates, cacheNames, cacheCounts, mirror, mirrorLength, syncFloor, trailLength, trailVariables, map, clauseCount, clauseParents, clauseRequirements, clauseConditions, environmentRegion}
-use Rattle.store.specs.Limits.{variables, requirements, disjunctions, trailRoom, lastVariable, lastRequirement}
+use Rattle.store.specs.Layout.{queued, cacheStates, cacheCandidates, cacheNames, cacheCounts, mirror, mirrorLength, syncFloor, trailLength, trailVariables, map, clauseCount, environmentRegion}
+use Rattle.store.specs.Limits.{variables, requirements, trailRoom, lastVariable}
 use Rattle.store.specs.Shape.{every, upTo, Sound}
 use Rattle.evaluate.proofs.Froms.{upto-next, upto-done, every-from, every-both}
 use Rattle.sync.proofs.Kept.{few, woken-sound, spoiled-sound, new-in-range}

@@ -23,7 +23,6 @@ use Rattle.tables.specs.Disjunction.{literalsOf, loadDisjunctionIn, span
 use Rattle.tables.specs.Union.{loadUnionIn, membersPut, loadUnionInStore}
 use Rattle.tables.specs.VersionSet.{loadVersionSetIn, named, loadVersionSetInStore}
 use Rattle.tables.specs.declared.Loaded.the-variants.{Done}
-use Rattle.tables.specs.declared.Literals.{Literals}
 
 -- the name of a version set
 pub set-reads : (w : List ℕ) (versionSet name : ℕ) → Sound w → loadVersionSetIn w versionSet name ≡ Done → at setNames versionSet (loadVersionSetInStore w versionSet name) ≡ name + 1
