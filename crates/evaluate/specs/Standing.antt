@@ -1,5 +1,5 @@
 -- The store of document 01 that the words stand for: its clauses, tables and settings, its queue, its trail, mirror and floor.
-use mathlib.Core.Bool.{Bool, false, cond}
+use mathlib.Core.Bool.{Bool, cond}
 use mathlib.Core.List.{List}
 use Prim.Native.Nat.{ℕ}
 use lib.Dec.{ltb, eqb}

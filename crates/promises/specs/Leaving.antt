@@ -62,7 +62,7 @@ pub record DeadAmong (e : Environment) (a : ℕ → Value) (clause : ℕ) (ranke
 abbrev pub Dies : List ℕ → ℕ → Type 0
 Dies w clause = DeadAmong (envOf w) (assigned w) clause (examinedFrom (envOf w) (assigned w) (ranks (at clauseCount 0 w)))
 
--- "finds it not open"
+-- "finds it not open": shut. A dead clause is open, with no first, and stays queued
 abbrev pub notOpen : Seen → Bool
 notOpen Shut = true
 notOpen (Open candidate name count) = false

@@ -13,7 +13,7 @@ use Rattle.examine.specs.Cache.{metAt, visited, wordOperations}
 use Rattle.proposal.proofs.Kept.{answer-beside}
 use Rattle.proposal.proofs.Steps.{activity-most}
 use Rattle.proposal.proofs.Unrolling.{first-dead, first-dropped, first-open, first-unqueued, ranks-done, ranks-next, second-enough, second-fatal, second-on, second-stop}
-use Rattle.proposal.specs.Propose.{Sane, answer, choosing, dying, ended, first, proposalIn, proposalInStore, second, told}
+use Rattle.proposal.specs.Propose.{Sane, afterBest, answer, choosing, dying, ended, proposalIn, proposalInStore, toFirstBest, told}
 use Rattle.proposal.specs.Turn.{Fine, bestAt, largestAt, passedAt, stopsAt, topAt, weighBy, weighOf, weighed}
 use Rattle.rules.proofs.Cases.{better-either}
 use Rattle.rules.specs.Queue.{Answer, queuedFrom, queuedOn}
@@ -149,12 +149,12 @@ pub record Second (w s : List ℕ) (n top k : ℕ) (b : Best) (d : ℕ) (whole :
   pub beside : Beside s w
   pub fine : Fine w b
   pub drops : d ≤ k
-  pub rest : whole ≡ second w b k d s
+  pub rest : whole ≡ afterBest w b k d s
 
-pub settle-one : (w : List ℕ) (b : Best) (k d : ℕ) → stopsAt w b ≡ true → ended (choosing b d) w ≡ second w b k d w
+pub settle-one : (w : List ℕ) (b : Best) (k d : ℕ) → stopsAt w b ≡ true → ended (choosing b d) w ≡ afterBest w b k d w
 settle-one w b k d h = sym (second-stop w b (ranksFrom k (at clauseCount 0 w - k)) d h)
 
-pub begin-second : (w : List ℕ) (n top k : ℕ) (b : Best) (d : ℕ) → Sound w → n ≡ at clauseCount 0 w → top ≡ topAt w → k ≤ at clauseCount 0 w → Fine w b → d ≤ k → Second w w n top k b d (second w b k d w)
+pub begin-second : (w : List ℕ) (n top k : ℕ) (b : Best) (d : ℕ) → Sound w → n ≡ at clauseCount 0 w → top ≡ topAt w → k ≤ at clauseCount 0 w → Fine w b → d ≤ k → Second w w n top k b d (afterBest w b k d w)
 begin-second w n top k b d h e t u f z =
     record {
       upto = omega arith;
@@ -203,9 +203,9 @@ module _ (w s : List ℕ) (n top k : ℕ) (b : Best) (d : ℕ) (whole : Answer (
       second-turn c x h =
           let f = second-weighing c x h in
           let count : at clauseCount 0 s ≡ at clauseCount 0 w = at-beside s w (here .beside) clauseCount tt 0 in
-          let e : queuedOn wordOperations (envOf s) c (ranksFrom (k + 1) (at clauseCount 0 w - (k + 1))) (d + x) (weighed s b k) ≡ second w c (k + 1) (d + x) u =
+          let e : queuedOn wordOperations (envOf s) c (ranksFrom (k + 1) (at clauseCount 0 w - (k + 1))) (d + x) (weighed s b k) ≡ afterBest w c (k + 1) (d + x) u =
           ap (λ (v : Environment). queuedOn wordOperations v c (ranksFrom (k + 1) (at clauseCount 0 w - (k + 1))) (d + x) (weighed s b k)) (env-beside s w (here .beside))
-          ∙ ap (second w c (k + 1) (d + x)) (sym q) in
+          ∙ ap (afterBest w c (k + 1) (d + x)) (sym q) in
           record {
             upto = omega arith;
             size = here .size;
@@ -235,7 +235,7 @@ pub record First (w s : List ℕ) (n k d : ℕ) : Type 0 where
   pub few : n ≤ clauses
   pub beside : Beside s w
   pub drops : d ≤ k
-  pub rest : answer w ≡ first w k d s
+  pub rest : answer w ≡ toFirstBest w k d s
 
 pub begin-first : (w : List ℕ) (n : ℕ) → Sound w → n ≡ at clauseCount 0 w → First w w n 0 0
 unfolding answer
@@ -275,12 +275,12 @@ module _ (w s : List ℕ) (n k d : ℕ) (here : First w s n k d) where
       pub first-beside : Beside u w
       first-beside = rw first-left (beside-visited s w (here .beside) k first-inside)
 
-      first-turn : (c : ℕ) → c ≤ k + 1 → answer w ≡ first w (k + 1) c u → First w u n (k + 1) c
+      first-turn : (c : ℕ) → c ≤ k + 1 → answer w ≡ toFirstBest w (k + 1) c u → First w u n (k + 1) c
       first-turn c l e = record { upto = omega arith; size = here .size; few = here .few; beside = first-beside; drops = l; rest = e }
 
       pub first-turn-unqueued : metAt s j ≡ Unqueued → First w u n (k + 1) d
       first-turn-unqueued h =
-          first-turn d (omega (arith, here .drops)) (first-rest ∙ first-unqueued (envOf w) s k later d (sym (ap (metAt s) is) ∙ h) ∙ ap (first w (k + 1) d) (sym first-left))
+          first-turn d (omega (arith, here .drops)) (first-rest ∙ first-unqueued (envOf w) s k later d (sym (ap (metAt s) is) ∙ h) ∙ ap (toFirstBest w (k + 1) d) (sym first-left))
 
       pub first-turn-dropped : metAt s j ≡ Dropped → First w u n (k + 1) (d + 1)
       first-turn-dropped h =
@@ -293,13 +293,13 @@ module _ (w s : List ℕ) (n k d : ℕ) (here : First w s n k d) where
 
       -- what follows the first best is the rest of the walk
       module _ (b : Best) (x m c : ℕ) (e : b ≡ bestAt u k x m c) where
-        pub first-settles : metAt s j ≡ Opened x m c → second u b (k + 1) d u ≡ answer w
+        pub first-settles : metAt s j ≡ Opened x m c → afterBest u b (k + 1) d u ≡ answer w
         unfolding bestAt
         first-settles h =
             let f : b ≡ best (envOf w) k x m c = e ∙ ap (λ (v : Environment). best v k x m c) (env-beside u w first-beside) in
-            let g : second u b (k + 1) d u ≡ second w b (k + 1) d u = ap (λ (v : Environment). queuedOn wordOperations v b (ranksFrom (k + 1) (v .size - (k + 1))) d u) (env-beside u w first-beside) in
-            g ∙ ap (λ (y : Best). second w y (k + 1) d u) f
-            ∙ sym (first-rest ∙ first-open (envOf w) s k later d x m c (sym (ap (metAt s) is) ∙ h) ∙ ap (second w (best (envOf w) k x m c) (k + 1) d) (sym first-left))
+            let g : afterBest u b (k + 1) d u ≡ afterBest w b (k + 1) d u = ap (λ (v : Environment). queuedOn wordOperations v b (ranksFrom (k + 1) (v .size - (k + 1))) d u) (env-beside u w first-beside) in
+            g ∙ ap (λ (y : Best). afterBest w y (k + 1) d u) f
+            ∙ sym (first-rest ∙ first-open (envOf w) s k later d x m c (sym (ap (metAt s) is) ∙ h) ∙ ap (afterBest w (best (envOf w) k x m c) (k + 1) d) (sym first-left))
 
         pub settle-ready : (Sound u) × (k + 1 ≤ at clauseCount 0 u) × (Fine u b) × (d ≤ k + 1)
         settle-ready =

@@ -22,12 +22,12 @@ use Rattle.proposal.specs.declared.Proposal.the-variants.{Choose as Chos
 use Rattle.proposal.specs.declared.decide_queue.Walked.{Walked}
 
 -- the walk from rank k on, to the first best
-abbrev pub first : List ℕ → ℕ → ℕ → List ℕ → Answer (List ℕ)
-first w k d s = queuedFrom wordOperations (envOf w) (ranksFrom k (at clauseCount 0 w - k)) d s
+abbrev pub toFirstBest : List ℕ → ℕ → ℕ → List ℕ → Answer (List ℕ)
+toFirstBest w k d s = queuedFrom wordOperations (envOf w) (ranksFrom k (at clauseCount 0 w - k)) d s
 
 -- after the first best b
-abbrev pub second : List ℕ → Best → ℕ → ℕ → List ℕ → Answer (List ℕ)
-second w b k d s = queuedOn wordOperations (envOf w) b (ranksFrom k (at clauseCount 0 w - k)) d s
+abbrev pub afterBest : List ℕ → Best → ℕ → ℕ → List ℕ → Answer (List ℕ)
+afterBest w b k d s = queuedOn wordOperations (envOf w) b (ranksFrom k (at clauseCount 0 w - k)) d s
 
 -- the whole walk
 unfoldable pub answer : List ℕ → Answer (List ℕ)

@@ -1,7 +1,7 @@
 -- The walk of document 01, over the clauses, tables, activities, hot names, mode and an assignment, and nothing else.
 use mathlib.Core.Bool.{Bool, true, false, not, cond, _&&_, _||_}
 use mathlib.Core.List.{List, [], _∷_, _++_}
-use Prim.Native.Nat.{ℕ, zero, suc, _+_, max}
+use Prim.Native.Nat.{ℕ, zero, suc, max}
 use lib.Dec.{eqb, ltb}
 use Rattle.store.specs.Codes.{root}
 pub use Rattle.trail.specs.declared.Value.{Value}

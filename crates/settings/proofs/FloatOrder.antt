@@ -3,7 +3,7 @@
 -- pattern has 8388608 = 2 ^ 23 digits below its exponent. Each value is counted in units of 2 ^ -149. Assumes nothing.
 use mathlib.Core.Path.{_≡_, refl, sym, ap, _∙_, subst}
 use mathlib.Core.Logic.{inl, inr}
-use Prim.Native.Nat.{ℕ, zero, suc, _+_, _-_, _*_, _/_, _%_, _^_, _≤_, _<_}
+use Prim.Native.Nat.{ℕ, zero, suc, _+_, _*_, _/_, _%_, _^_, _≤_, _<_}
 use native.Mathlib.Nat.{le-antisymm, lt-irrefl, le-add-right, le-of-suc-le-suc, mod-lt, le-trans, le-of-eq, le-of-lt, lt-of-lt-of-le, not-le-of-lt, lt-of-not-le, eq-or-lt-of-le, mod-eq-of-lt, mul-one, mul-assoc, mul-le-mul-right, mul-le-mul-left, mul-lt-mul-of-pos-right, le-of-mul-le-mul-right, pow-succ', le-mul-of-pos-right}
 use native.Mathlib.Omega.{arith}
 use mathlib.Core.Bool.{Bool, true, false, not, _&&_, cond, true≢false}
