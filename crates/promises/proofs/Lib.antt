@@ -11,6 +11,11 @@ pub mod Asking
 pub mod Unchanged
 pub mod Outside
 pub mod Beyond
+pub mod UnreadWords
+pub mod UnreadAnswers
+pub mod UnreadProposal
+pub mod UnreadLeft
+pub mod Unread
 pub mod Settled
 pub mod Lent
 pub mod Calling
