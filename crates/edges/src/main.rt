@@ -89,6 +89,9 @@ fn try_levels(words: &mut [u32]) {
     say_assigned(trail::assign(words, 1, 1, 2_147_483_648, 10));
     say::text(b"one entry at that level, undo-until 1: ");
     say_until(trail::undo_until(words, 1));
+}
+
+fn try_stop(words: &mut [u32]) {
     say::text(b"undo-until 0: ");
     say_until(trail::undo_until(words, 0));
     say::text(b"level 2: ");
@@ -162,6 +165,7 @@ fn main() {
     let mut words = [0u32; limits::WORD_ROOM];
     store::fresh::fresh(&mut words);
     try_levels(&mut words);
+    try_stop(&mut words);
     load_leaves(&mut words);
     load_wide(&mut words);
     load_deep(&mut words);
