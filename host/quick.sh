@@ -1,6 +1,7 @@
 #!/bin/sh
-# A quick pass of the example script, compare and hostile, about a minute once the library and the program are proved. Says so and passes
-# where there is no Rust compiler; without the original compare is left out, without a C compiler the C example.
+# A quick pass of the example script, compare, hostile, the wrapper's tests and the C example, about a minute once the library and the
+# program are proved. Says so and passes where there is no Rust compiler; without the original compare is left out, without a C compiler
+# the C example.
 set -e
 here=$(cd "$(dirname "$0")/.." && pwd)
 if [ -n "${SHARED:-}" ]; then

@@ -1,5 +1,5 @@
-// Document 01's edges that are shown by running: the largest level, the largest rewritten condition, the last clause, and one step beyond
-// each.
+// Document 01's edges that are shown by running: the largest level, the largest rewritten condition and the last clause, one step beyond
+// each, and undo-until on one entry above its level.
 use clauses::Registered;
 use conditions::Rewritten;
 use script::say;
@@ -87,7 +87,7 @@ fn try_levels(words: &mut [u32]) {
     say_assigned(trail::assign(words, 0, 1, 2_147_483_647, 10));
     say::text(b"level 2,147,483,648: ");
     say_assigned(trail::assign(words, 1, 1, 2_147_483_648, 10));
-    say::text(b"one entry at that level, undo-until 1: ");
+    say::text(b"one entry at level 2,147,483,647, undo-until 1: ");
     say_until(trail::undo_until(words, 1));
 }
 

@@ -19,7 +19,7 @@ use Rattle.imbolaverk.proofs.Outputs.{written-is}
 use Rattle.imbolaverk.specs.Calls.{propose, valuesOf}
 use Rattle.imbolaverk.specs.Proposed.{bitsOf, proposed}
 use Rattle.imbolaverk.specs.Written.{written}
-use Rattle.promises.specs.Told.{placed, placesOf}
+use Rattle.promises.specs.Outputs.{placed, placesOf}
 use Rattle.proposal.specs.Propose.{answer, proposalIn, proposalOut, proposalValues, told, unsynced}
 use Rattle.rules.proofs.Chosen.{chosen-has}
 use Rattle.rules.specs.Queue.{seen, stateIn}

@@ -12,7 +12,7 @@ use Rattle.conditions.specs.Rewrite.{cellsBy, lengthsBy, rewriteCells, rewriteI
 use Rattle.imbolaverk.specs.Calls.{Call, fresh, load-version-set, load-union, load-candidates, load-disjunction, load-condition, register, mark-hot, set-activity, set-mode, assign, undo-last, undo-until, next-unpropagated, sync, propose, value-of, clause-of, trail-length, copy-trail, copy-candidates, rewrite, disjunct-holds, settings, name-of, numberOf, valuesOf, wordsOf}
 use Rattle.imbolaverk.specs.CopyTrail.{copied, copiedCount, copyOut as trailOut}
 use Rattle.promises.proofs.Unchanged.{same-by}
-use Rattle.promises.specs.Told.{lentTo}
+use Rattle.promises.specs.Outputs.{lentTo}
 use Rattle.proposal.specs.Propose.{proposalNumber, proposalOut, proposalValues}
 use Rattle.requirement.specs.Copy.{copiedNumber, copiedValues, copyCells, copyIn, copyInCells, copyInLengths, copyLeft, copyLengths, copyOut}
 use Rattle.settings.specs.Settings.{modeNow, modeNumber, modeValues, nameNow, nameNumber, nameValues}

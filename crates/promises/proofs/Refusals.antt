@@ -142,7 +142,7 @@ one-exactly w c n = ⊎-elim (λ (e : c ≡ fresh). absurd (n e)) (λ (o : Fixed
     shape o e true q = absurd (not-one w c o q e)
     shape o e false q = q
 
--- "what is bad is refused by a fixed number": each call answers 0, 1 or one of its own refusals
+-- "the call is refused by a fixed number": each call answers 0, 1 or one of its own refusals
 pub refusals-are : (w : List ℕ) (c : Call) → T (member (numberOf w c) (0 ∷ 1 ∷ refusals c))
 unfolding member freshOut
 refusals-are w c = ⊎-elim (λ (e : c ≡ fresh). rw e (made (leb words (length w)))) (λ (o : Fixed w c). by (soundShape w) refl o) (all-fixed w c)

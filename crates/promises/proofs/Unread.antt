@@ -27,8 +27,8 @@ use Rattle.trail.specs.UndoLast.{undoneNumber, undoneValues}
 use Rattle.trail.specs.UndoUntil.{untilNumber}
 
 -- answers that are the same have the same number and the same values
-told : {A : Type 0} (number : A → ℕ) (values : A → List ℕ) {x y : A} → x ≡ y → (number x ≡ number y) × (values x ≡ values y)
-told number values e = (ap number e, ap values e)
+answered-alike : {A : Type 0} (number : A → ℕ) (values : A → List ℕ) {x y : A} → x ≡ y → (number x ≡ number y) × (values x ≡ values y)
+answered-alike number values e = (ap number e, ap values e)
 
 pub beyond-unread : (w u : List ℕ) → area whole w ≡ area whole u → (c : Call) → (numberOf w c ≡ numberOf u c) × (valuesOf w c ≡ valuesOf u c)
 beyond-unread w u e fresh = (ap madeNumber (fresh-answers w u e), refl)
@@ -41,15 +41,15 @@ beyond-unread w u e (register parent kind requirement condition clause) = (ap re
 beyond-unread w u e (mark-hot name) = (ap tunedNumber (hot-answers w u e name), refl)
 beyond-unread w u e (set-activity name activity fit) = (ap tunedNumber (activity-answers w u e name activity), refl)
 beyond-unread w u e (set-mode m) = (ap tunedNumber (mode-answers w u e m), refl)
-beyond-unread w u e (assign variable value level clause) = told assignedNumber assignedValues (assign-answers w u e variable value level)
-beyond-unread w u e undo-last = told undoneNumber undoneValues (undo-last-answers w u e)
+beyond-unread w u e (assign variable value level clause) = answered-alike assignedNumber assignedValues (assign-answers w u e variable value level)
+beyond-unread w u e undo-last = answered-alike undoneNumber undoneValues (undo-last-answers w u e)
 beyond-unread w u e (undo-until level) = (ap untilNumber (undo-until-answers w u e level), refl)
-beyond-unread w u e next-unpropagated = told nextNumber nextValues (next-answers w u e)
-beyond-unread w u e sync = told syncedNumber syncedValues (sync-answers w u e)
-beyond-unread w u e propose = told proposalNumber proposalValues (proposal-answers w u e)
-beyond-unread w u e (value-of variable) = told valuedNumber valuedValues (value-answers w u e variable)
-beyond-unread w u e (clause-of variable) = told causeNumber causeValues (clause-answers w u e variable)
-beyond-unread w u e trail-length = told lengthNumber lengthValues (length-answers w u e)
+beyond-unread w u e next-unpropagated = answered-alike nextNumber nextValues (next-answers w u e)
+beyond-unread w u e sync = answered-alike syncedNumber syncedValues (sync-answers w u e)
+beyond-unread w u e propose = answered-alike proposalNumber proposalValues (proposal-answers w u e)
+beyond-unread w u e (value-of variable) = answered-alike valuedNumber valuedValues (value-answers w u e variable)
+beyond-unread w u e (clause-of variable) = answered-alike causeNumber causeValues (clause-answers w u e variable)
+beyond-unread w u e trail-length = answered-alike lengthNumber lengthValues (length-answers w u e)
 beyond-unread w u e (copy-trail list) =
     let same = trail-answers w u e (length list) in
     (ap lengthNumber same, rw (same, trail-copied w u e list (copiedCount (trailOut u (length list)))))
@@ -59,9 +59,9 @@ beyond-unread w u e (copy-candidates kind id lengths cells) =
 beyond-unread w u e (rewrite node lengths cells) =
     let same = rewrite-answers w u e node (length lengths) (length cells) in
     (ap rewrittenNumber same, rw (same, rewrite-lengths w u e node lengths cells, rewrite-cells w u e node lengths cells))
-beyond-unread w u e (disjunct-holds kinds starts lengths cells) = told holdsNumber holdsValues (disjunct-answers w u e kinds starts lengths cells)
-beyond-unread w u e settings = told modeNumber modeValues (settings-answers w u e)
-beyond-unread w u e (name-of name) = told nameNumber nameValues (name-answers w u e name)
+beyond-unread w u e (disjunct-holds kinds starts lengths cells) = answered-alike holdsNumber holdsValues (disjunct-answers w u e kinds starts lengths cells)
+beyond-unread w u e settings = answered-alike modeNumber modeValues (settings-answers w u e)
+beyond-unread w u e (name-of name) = answered-alike nameNumber nameValues (name-answers w u e name)
 
 -- and left alike there
 pub beyond-unread-left : (w u : List ℕ) → area whole w ≡ area whole u → (c : Call) → area whole (leftBy w c) ≡ area whole (leftBy u c)

@@ -114,7 +114,7 @@ module _ (w u : List ℕ) (e : Alike w u) where
   unfolding countsSound
   counts-alike = simp at-alike
 
-  -- so both are of sound shape, or none
+  -- so both are of sound shape, or neither is
   pub sound-alike : soundShape w ≡ soundShape u
   unfolding soundShape
   sound-alike = simp (long-alike, ranges-alike, area-alike map refl, tables-alike, nodes-alike, counts-alike)

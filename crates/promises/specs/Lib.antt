@@ -5,4 +5,4 @@ pub mod Leaving
 pub mod History
 pub mod Scripts
 pub mod Trying
-pub mod Told
+pub mod Outputs

@@ -1,4 +1,4 @@
--- WHERE A CALL MAY WRITE: the areas of its own module, and no word of any other.
+-- WHERE A CALL MAY WRITE: mostly the areas of its own module; registering also the queued marks, sync also the trail's floor, a fresh store all.
 use mathlib.Core.List.{List, [], _∷_}
 use lib.Dec.{T}
 use Rattle.imbolaverk.specs.Calls.{Call, fresh, load-version-set, load-union, load-candidates, load-disjunction, load-condition, register, mark-hot, set-activity, set-mode, assign, undo-last, undo-until, next-unpropagated, sync, propose, value-of, clause-of, trail-length, copy-trail, copy-candidates, rewrite, disjunct-holds, settings, name-of}

@@ -14,11 +14,12 @@ abbrev pub TakesBack : ℕ → List ℕ → List Call → Type 0
 TakesBack n w [] = entries w ≡ n
 TakesBack n w (c ∷ cs) = ApartAll environmentRegion (writesIn c) × ((n ≤ entries (leftBy w c)) × TakesBack n (leftBy w c) cs)
 
--- the trail's length, the map and the entries
+-- the trail's length, the map, and the entries' variables and values
 abbrev pub entriesRegion : Area
 entriesRegion = region trailLength trailValues
 
--- asking: any calls that write neither clauses, tables and settings nor the trail: syncs, proposals, and all that only read
+-- asking: any calls that write neither clauses, tables and settings nor the trail's length, the map or the entries' variables and values: syncs,
+-- proposals, and all that only read
 abbrev pub Asks : List Call → Type 0
 Asks [] = Unit {0}
 Asks (c ∷ cs) = ApartAll environmentRegion (writesIn c) × (ApartAll entriesRegion (writesIn c) × Asks cs)

@@ -47,7 +47,7 @@ touchesIn w = (at mirrorLength 0 w - at syncFloor 0 w) + (at trailLength 0 w - a
 unfoldable pub brokenAt : List ℕ → List ℕ → ℕ → Bool
 brokenAt w W key = broken (assigned w) W (listsAt w key) (cacheOf w key)
 
--- a clause wakes: its parent is true, and its parent or a variable of its condition is touched, or its cache is broken
+-- a clause wakes: its parent is true, and one of these holds: its parent is touched, a variable of its condition is touched, its cache is broken
 unfoldable pub wakesAt : List ℕ → List ℕ → ℕ → Bool
 wakesAt w W k = woken (envOf w) (assigned w) W (queueOf w) k
 
@@ -78,15 +78,15 @@ block = 32
 abbrev pub DirtyBlock : List ℕ → ℕ → Type 0
 DirtyBlock w first = (key : ℕ) → first ≤ key → key < first + block → at cacheStates key w ≡ dirty
 
--- a cache becomes dirty and is the first of some or comes after it
+-- a cache becomes dirty, and its key is `first` or a later one
 abbrev pub spoilsFrom : ℕ → List ℕ → List ℕ → ℕ → Bool
 spoilsFrom first w W key = leb first key && spoilsAt w W key
 
--- from the first of some on, before an end, the caches that become dirty are made so
+-- of the caches from key `first` on and before `end`, those that become dirty are made so
 abbrev pub spoiledFrom : ℕ → List ℕ → List ℕ → ℕ → List ℕ
 spoiledFrom first w W end = sweep cacheStates (spoilsFrom first w W) dirty w end
 
--- the one sweep: marks first, for a cache that is broken wakes its clauses
+-- both sweeps: the marks first, while the caches still say what was satisfied, for a broken cache wakes its clauses
 unfoldable pub sweptWords : List ℕ → List ℕ → List ℕ
 sweptWords w W = spoiledWords (wokenWords w W) W
 
