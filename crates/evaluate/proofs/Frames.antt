@@ -2,7 +2,7 @@
 -- Assumes nothing.
 use mathlib.Core.Bool.{Bool}
 use mathlib.Core.List.{List}
-use mathlib.Core.Path.{_≡_, ap, _∙_, fun-ext}
+use mathlib.Core.Path.{_≡_, refl, ap, _∙_, fun-ext}
 use Prim.Native.Nat.{ℕ, _-_}
 use lib.Dec.{T, eqb}
 use Rattle.evaluate.proofs.Froms.{from-same}
@@ -61,8 +61,8 @@ module _ (s w : List ℕ) (e : area clausesRegion s ≡ area clausesRegion w) wh
 
 -- the clauses and tables of w, with other settings
 module _ (s w : List ℕ) (c : area clausesRegion s ≡ area clausesRegion w) (t : area tablesRegion s ≡ area tablesRegion w) where
-  pub env-tuned : (f : ℕ → ℕ) (h : ℕ → Bool) (m : Bool) → (envOf s) .activity ≡ f → (envOf s) .hot ≡ h → (envOf s) .standard ≡ m → envOf s ≡ (tuned (storeOf w) f h m) .env
-  env-tuned f h m a b d =
+  pub env-tuned : (f : ℕ → ℕ) (h : ℕ → Bool) (m : Bool) (r : ℕ) → (envOf s) .activity ≡ f → (envOf s) .hot ≡ h → (envOf s) .standard ≡ m → (envOf s) .rule ≡ r → envOf s ≡ (tuned (storeOf w) f h m r) .env
+  env-tuned f h m r a b d g =
       λ i.
       record {
         size = clauses-same s w c i;
@@ -75,6 +75,7 @@ module _ (s w : List ℕ) (c : area clausesRegion s ≡ area clausesRegion w) (t
         names = names;
         hot = b i;
         standard = d i;
+        rule = g i;
       }
 
 -- the clauses, tables and settings
@@ -85,8 +86,8 @@ module _ (s w : List ℕ) (e : area environmentRegion s ≡ area environmentRegi
   pub env-same : envOf s ≡ envOf w
   env-same =
       env-tuned s w (area-same clausesRegion environmentRegion s w tt e) (area-same tablesRegion environmentRegion s w tt e)
-      ((envOf w) .activity) ((envOf w) .hot) ((envOf w) .standard)
-      (fun-ext (setting activities tt)) (fun-ext (λ n. ap (λ x. eqb x 1) (setting hotNames tt n))) (ap (λ x. eqb x 1) (setting mode tt 0))
+      ((envOf w) .activity) ((envOf w) .hot) ((envOf w) .standard) ((envOf w) .rule)
+      (fun-ext (setting activities tt)) (fun-ext (λ n. ap (λ x. eqb x 1) (setting hotNames tt n))) (ap (λ x. eqb x 1) (setting mode tt 0)) refl
 
 -- the assignment
 pub assigned-same : (s w : List ℕ) → area map s ≡ area map w → assigned s ≡ assigned w

@@ -35,6 +35,7 @@ envOf w =
       names = names;
       hot = λ n. eqb (at hotNames n w) 1;
       standard = eqb (at mode 0 w) standardMode;
+      rule = 1;
     }
 
 -- a cache's four words: dirty; satisfied by a candidate; or a frontier's first candidate, name and count

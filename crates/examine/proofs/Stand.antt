@@ -118,7 +118,7 @@ module _ (w : List ℕ) (h : Sound w) (k : ℕ) (l : k < at clauseCount 0 w) whe
   unfolding ofClause
   word-dropped j n = rw (count-kept, at-put-else queued k j 0 w (clause-inside w h k l) n)
 
-  mark-dropped : (j : ℕ) (b : Bool) → eqb j k ≡ b → markOf (dropped w k) j ≡ elim b as (λ _. Bool) [ true ↦ false | false ↦ markOf w j ]
+  mark-dropped : (j : ℕ) (b : Bool) → eqb j k ≡ b → markOf (dropped w k) j ≡ cond b false (markOf w j)
   unfolding markOf
   mark-dropped j true e = rw (eqb-true j k e, clause-word queued (dropped w k) k (rw count-kept l), at-put-same queued k 0 w (clause-inside w h k l) (omega (arith, h .long)))
   mark-dropped j false e = rw (word-dropped j (eqb-false j k e))

@@ -46,6 +46,7 @@ env-but-mode w u s =
       names = names;
       hot = fun-ext (λ n. ap (λ x. eqb x 1) (s .hot-same n)) i;
       standard = (envOf w) .standard;
+      rule = 1;
     }
 
 -- and are told the same of one answer

@@ -25,10 +25,10 @@ use Rattle.proposal.specs.Propose.{answer, unsynced}
 use Rattle.requirement.specs.Copy.{tabled}
 use Rattle.requirement.specs.Load.{adds, known, fitting, loadIn, putLists, tableAt, loadedSingle, loadedUnion, loaded as tableMade}
 use Rattle.requirement.specs.Tables.{requirementOf, firstSlot, setCount, listCount, setOf, cellsOf}
-use Rattle.rules.specs.Queue.{seen, queuedOn, queuedFrom}
+use Rattle.rules.specs.Queue.{seen, queuedTurn}
 use Rattle.rules.specs.Sweep.{touches}
 use Rattle.rules.specs.Sync.{meets}
-use Rattle.rules.specs.Walk.{member, allFalse, flattened, firstTrue, firstUndecided, countUndecided, frontier, evaluate, largest, anyHot, ranksFrom}
+use Rattle.rules.specs.Walk.{member, allFalse, flattened, firstTrue, firstUndecided, countUndecided, frontier, evaluate, largest, anyHot, upTo}
 use Rattle.settings.specs.Activity.{good, admitted}
 use Rattle.settings.specs.Settings.{hotIn, hotInStore, activityWith, quiet, activityOn, activityOnStore, activityIn, activityInStore}
 use Rattle.store.specs.Area.{area, at, put, putRun, blank}
@@ -126,7 +126,7 @@ unfoldable onwardOf : Ran → List (List (List ℕ))
 onwardOf r = r .said ∷ eachIn (r .left) onward
 
 computed : (eachIn first alone ≡ map expected alone) × (onwardOf third ≡ map expected (p3 ∷ onward))
-unfolding otherName newName nameCount newNames distinctNames behindLast knownCondition conditionWord literalCountOf allNamed hasRoom registerIn queuedMark recordIn registered behind cross nodeTerms dnf linked lengthsOf joined tooMuch rewriteIn over rewriteInLengths rewriteInCells ofClause cacheBy cacheOf markOf assigned from listAt listsAt literalAt literalsAt cached saved seenAt filled proposed runIn stepIn answer unsynced tabled adds known fitting loadIn putLists tableAt loadedSingle loadedUnion tableMade requirementOf firstSlot setCount listCount setOf cellsOf seen queuedOn queuedFrom touches meets member allFalse flattened firstTrue firstUndecided countUndecided frontier evaluate largest anyHot ranksFrom good admitted hotIn hotInStore activityWith quiet activityOn activityOnStore activityIn activityInStore area at put putRun blank freshWords allFrom moved inserted every sweep wordsFrom oldEntries newEntries touchedIn touchesIn wakesAt spoilsAt wokenWords spoiledWords sweptWords copiedWords mirroredWords syncInStore loaded leafIn branchIn loadConditionIn leafed branched nodePut literalsOf loadVersionSetIn assignOn assignIn pushed cellValue cellSide cellLevel cellOf decisionAt levelAt levelOfLast entryAbove valueIn popped undoLastIn undoLastInStore poppedTo cleared noStop undoUntilIn undoUntilInStore odd ofFields ofBits toBits size climb span onwardOf
+unfolding otherName newName nameCount newNames distinctNames behindLast knownCondition conditionWord literalCountOf allNamed hasRoom registerIn queuedMark recordIn registered behind cross nodeTerms dnf linked lengthsOf joined tooMuch rewriteIn over rewriteInLengths rewriteInCells ofClause cacheBy cacheOf markOf assigned from listAt listsAt literalAt literalsAt cached saved seenAt filled proposed runIn stepIn answer unsynced tabled adds known fitting loadIn putLists tableAt loadedSingle loadedUnion tableMade requirementOf firstSlot setCount listCount setOf cellsOf seen queuedTurn upTo touches meets member allFalse flattened firstTrue firstUndecided countUndecided frontier evaluate largest anyHot good admitted hotIn hotInStore activityWith quiet activityOn activityOnStore activityIn activityInStore area at put putRun blank freshWords allFrom moved inserted every sweep wordsFrom oldEntries newEntries touchedIn touchesIn wakesAt spoilsAt wokenWords spoiledWords sweptWords copiedWords mirroredWords syncInStore loaded leafIn branchIn loadConditionIn leafed branched nodePut literalsOf loadVersionSetIn assignOn assignIn pushed cellValue cellSide cellLevel cellOf decisionAt levelAt levelOfLast entryAbove valueIn popped undoLastIn undoLastInStore poppedTo cleared noStop undoUntilIn undoUntilInStore odd ofFields ofBits toBits size climb span onwardOf
 computed = (refl, refl)
 
 alone-say : each start alone ≡ map expected alone

@@ -26,8 +26,6 @@ pub mod Totals
 pub mod Demands
 pub mod Staying
 pub mod Trying
-pub mod Leaving
-pub mod Dying
 pub mod Refusals
 pub mod Results
 pub mod Activities

@@ -22,9 +22,8 @@ use Rattle.promises.specs.Six.{SameClauses}
 use Rattle.requirement.specs.Tables.{keyAt}
 use Rattle.rules.proofs.Ranks.{at-rank}
 use Rattle.rules.proofs.Placing.{fresh-position, register-position}
-use Rattle.rules.specs.Position.{History, InPosition, SameHistory, filed, noHistory}
+use Rattle.rules.specs.Position.{ranks, History, InPosition, SameHistory, filed, noHistory}
 use Rattle.rules.specs.Store.{Store}
-use Rattle.rules.specs.Walk.{ranks}
 use Rattle.store.proofs.Choice.{lt-or}
 use Rattle.store.specs.Area.{Area, at}
 use Rattle.store.specs.Fresh.{freshOut, freshStore}

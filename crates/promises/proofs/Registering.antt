@@ -147,6 +147,7 @@ module _ (w : List ℕ) (parent key condition clause : ℕ) (p : Placed w parent
               names = names;
               hot = fun-ext (λ n. ap (λ x. eqb x 1) (set-same hotNames tt n)) i;
               standard = ap (λ x. eqb x 1) (set-same mode tt 0) i;
+              rule = 1;
             };
         trail = trail-same left w (kept trailRegion tt tt) i;
         mirror = mirror-same left w (kept mirrorRegion tt tt) i;

@@ -8,28 +8,27 @@ use Prim.Native.Nat.{ℕ, zero, suc, _+_, _-_, _*_, _≤_, _<_}
 use native.Mathlib.Omega.{arith}
 use borrow.Author.Tests.{eqb-false}
 use lib.Dec.{T, eqb, eqb→eq}
-use lib.ListN.{length}
 use Rattle.evaluate.proofs.Froms.{length-mirror, length-trail}
 use Rattle.evaluate.specs.Standing.{envOf, markOf, queueOf}
 use Rattle.evaluate.specs.View.{assigned, from, listAt, listsAt}
 use Rattle.examine.proofs.Stand.{at-beside}
 use Rattle.promises.proofs.Calling.{reached-genuine, reached-sound}
-use Rattle.promises.proofs.Dying.{walk-dies}
 use Rattle.promises.proofs.Demands.{demand2, one-proposal, reached-holds}
-use Rattle.promises.proofs.Leaving.{tally-is, walk-leaves}
 use Rattle.imbolaverk.specs.Calls.{ReachedWords, numberOf, propose}
-use Rattle.promises.specs.Leaving.{Dies, dropsOf, examined, marked, notOpen, queueSize}
+use Rattle.promises.specs.Leaving.{Dies, dropsOf, examined, queueSize}
 use Rattle.promises.specs.Six.{SameButMode, undropped}
 use Rattle.proposal.proofs.Kept.{answer-along}
 use Rattle.proposal.proofs.Steps.{name-below}
 use Rattle.proposal.specs.Propose.{answer, proposalIn, proposalInStore, proposalNumber, proposalOut, proposalStore, told, unsynced}
-use Rattle.rules.proofs.Drops.{drops-of, tally}
+use Rattle.rules.proofs.Drops.{drops-of}
+use Rattle.rules.proofs.Leaving.{walk-dies, walk-leaves}
 use Rattle.rules.proofs.Modes.{modes}
 use Rattle.rules.proofs.Nothing.{nothing-iff}
 use Rattle.rules.proofs.Sweeps.{routes-same}
-use Rattle.rules.specs.Queue.{Queue}
+use Rattle.rules.specs.Leaving.{notOpen}
+use Rattle.rules.specs.Queue.{Queue, tally}
 use Rattle.rules.specs.Sync.{routes}
-use Rattle.rules.specs.Walk.{look, member, inMode, named, ranks, walk}
+use Rattle.rules.specs.Walk.{look, member, inMode, named, walk}
 use Rattle.store.proofs.AreaLaws.{at-past}
 use Rattle.store.proofs.Choice.{lt-or, true-false, or-cases}
 use Rattle.store.proofs.Soundness.{sound-facts}
@@ -82,7 +81,7 @@ module _ (w : List ℕ) (r : ReachedWords w) where
         back (Choose b) e = cc
 
     dies : (clause : ℕ) → (walk (envOf w) (assigned w) ≡ DeadClause clause) ↔ Dies w clause
-    dies clause = walk-dies (envOf w) (assigned w) clause (ranks (at clauseCount 0 w))
+    dies clause = walk-dies (envOf w) (assigned w) clause
 
     -- "A dead clause examined is refusal 8", "its clause id comes too"
     pub dead-exactly : (clause : ℕ) → (undropped (proposalOut w) ≡ DeadAt clause 0) ↔ Dies w clause
@@ -136,12 +135,9 @@ drops-are-counted w = go (soundShape w) (unsynced w) refl
     walked : Sound w → queueSize w ≡ queueSize (answer w .left) + dropsOf (told w (answer w .out) (answer w .drops))
     walked h =
         let along = answer-along w h in
-        let ks = ranks (at clauseCount 0 w) in
-        let before = tally-is (markOf w) ks in
-        let after = tally-is (markOf (answer w .left)) ks in
-        let left = ap (λ (q : Queue). tally (q .mark) ks) (along .2 .0) in
-        let same = ap (λ (n : ℕ). length (marked (markOf (answer w .left)) (ranks n))) (at-beside (answer w .left) w (along .2 .1) clauseCount tt 0) in
-        omega (arith, before, after, left, same, along .1, dropped (answer w .out) (answer w .drops), drops-of (envOf w) (assigned w) (queueOf w))
+        let left = ap (λ (q : Queue). tally (q .mark) (at clauseCount 0 w)) (along .2 .0) in
+        let same = ap (tally (markOf (answer w .left))) (at-beside (answer w .left) w (along .2 .1) clauseCount tt 0) in
+        omega (arith, left, same, along .1, dropped (answer w .out) (answer w .drops), drops-of (envOf w) (assigned w) (queueOf w))
 
     go : (b c : Bool) → soundShape w ≡ b →
         queueSize w ≡ queueSize (cond b (cond c w (answer w .left)) w) + dropsOf (cond b (cond c (Refused 7) (told w (answer w .out) (answer w .drops))) (Refused 1))

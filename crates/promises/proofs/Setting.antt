@@ -18,11 +18,11 @@ use Rattle.store.specs.Shape.{Sound, soundShape}
 
 -- A CALL THAT WRITES THE SETTINGS' REGION ALONE leaves words that differ in activities, hot names and mode
 module _ (s w : List ℕ) (out : (a : Area) → T (apart a settingsRegion) → area a s ≡ area a w) where
-  store-tuned : storeOf s ≡ tuned (storeOf w) ((envOf s) .activity) ((envOf s) .hot) ((envOf s) .standard)
+  store-tuned : storeOf s ≡ tuned (storeOf w) ((envOf s) .activity) ((envOf s) .hot) ((envOf s) .standard) ((envOf s) .rule)
   store-tuned =
       λ i.
       record {
-        env = env-tuned s w (out clausesRegion tt) (out tablesRegion tt) ((envOf s) .activity) ((envOf s) .hot) ((envOf s) .standard) refl refl refl i;
+        env = env-tuned s w (out clausesRegion tt) (out tablesRegion tt) ((envOf s) .activity) ((envOf s) .hot) ((envOf s) .standard) ((envOf s) .rule) refl refl refl refl i;
         trail = trail-same s w (out trailRegion tt) i;
         mirror = mirror-same s w (out mirrorRegion tt) i;
         floor = at-same syncFloor trailRegion s w tt (out trailRegion tt) 0 i;
@@ -35,7 +35,7 @@ module _ (s w : List ℕ) (out : (a : Area) → T (apart a settingsRegion) → a
         sound = h;
         mapped = mapped-frame s w (out trailRegion tt) (g .mapped);
         all-loaded = all-loaded-same s w (out clausesRegion tt) (out tablesRegion tt) (g .all-loaded);
-        reached = subst Reached (sym store-tuned) (then (g .reached) (tunes ((envOf s) .activity) ((envOf s) .hot) ((envOf s) .standard)));
+        reached = subst Reached (sym store-tuned) (then (g .reached) (tunes ((envOf s) .activity) ((envOf s) .hot) ((envOf s) .standard) ((envOf s) .rule)));
       }
 
 -- THE THREE CALLS

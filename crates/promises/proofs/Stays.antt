@@ -239,6 +239,7 @@ module _ (s w : List ℕ) (stays : Stays s w) (r : AllLoaded w) where
               names = names;
               hot = fun-ext (λ n. ap (λ x. eqb x 1) (here hotNames tt n)) i;
               standard = ap (λ x. eqb x 1) (here mode tt 0) i;
+              rule = 1;
             };
         trail = trail-same s w (stays .beside trailRegion tt) i;
         mirror = mirror-same s w (stays .beside mirrorRegion tt) i;

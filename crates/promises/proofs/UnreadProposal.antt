@@ -9,8 +9,8 @@ use Rattle.examine.specs.Cache.{cacheWrites, cached, clauseKey, filled, refresh
 use Rattle.promises.proofs.UnreadWords.{Alike, area-alike, at-alike, either-alike, put-alike, puts-alike, sound-alike}
 use Rattle.proposal.specs.Propose.{answer, proposalIn, proposalInStore, proposalOut, proposalStore, told, unsynced}
 use Rattle.rules.proofs.Following.{Follows, both-walk}
-use Rattle.rules.specs.Walk.{Environment, active, evaluate, ranks}
-use Rattle.rules.specs.Queue.{Answer, queuedFrom}
+use Rattle.rules.specs.Walk.{Environment, active, evaluate}
+use Rattle.rules.specs.Queue.{Answer, queuedWalk}
 use Rattle.store.specs.Codes.{frontier, satisfied}
 use Rattle.store.specs.Layout.{clauseCount, clauseIds, clauseParents, clauseRequirements, clausesRegion, environmentRegion, map, queueRegion, queued, tablesRegion}
 use Rattle.store.specs.Shape.{soundShape}
@@ -84,7 +84,7 @@ Same x y = (x .out ≡ y .out) × (x .drops ≡ y .drops) × Alike (x .left) (y 
 
 -- the walk with given clauses, tables and settings
 abbrev walked : List ℕ → Environment → Answer (List ℕ)
-walked s v = queuedFrom wordOperations v (ranks (v .size)) 0 s
+walked s v = queuedWalk wordOperations v s
 
 told-alike : (w u : List ℕ) (o : Out) (d : ℕ) → ofClause clauseParents w ≡ ofClause clauseParents u → ofClause clauseIds w ≡ ofClause clauseIds u → told w o d ≡ told u o d
 told-alike w u Nothing d p c = refl

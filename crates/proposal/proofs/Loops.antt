@@ -12,12 +12,13 @@ use Rattle.examine.proofs.Stand.{Beside, at-beside, beside-self, beside-visited
 use Rattle.examine.specs.Cache.{metAt, visited, wordOperations}
 use Rattle.proposal.proofs.Kept.{answer-beside}
 use Rattle.proposal.proofs.Steps.{activity-most}
-use Rattle.proposal.proofs.Unrolling.{first-dead, first-dropped, first-open, first-unqueued, ranks-done, ranks-next, second-enough, second-fatal, second-on, second-stop}
-use Rattle.proposal.specs.Propose.{Sane, afterBest, answer, choosing, dying, ended, proposalIn, proposalInStore, toFirstBest, told}
+use Rattle.proposal.proofs.Unrolling.{ranks-done, ranks-next, second-enough, second-fatal, second-on, second-stop, stays-ended, turned, visit-turn}
+use Rattle.proposal.specs.Propose.{Sane, answer, choosing, dying, ended, fromRank, onward, proposalIn, proposalInStore, soFar, told}
 use Rattle.proposal.specs.Turn.{Fine, bestAt, largestAt, passedAt, stopsAt, topAt, weighBy, weighOf, weighed}
-use Rattle.rules.proofs.Cases.{better-either}
-use Rattle.rules.specs.Queue.{Answer, queuedFrom, queuedOn}
-use Rattle.rules.specs.Walk.{Environment, best, better, largest, ranksFrom}
+use Rattle.rules.proofs.Cases.{better-either, onward-is}
+use Rattle.rules.specs.Position.{ranksFrom}
+use Rattle.rules.specs.Queue.{Answer, queuedTurn}
+use Rattle.rules.specs.Walk.{Environment, best, better, largest, upTo}
 use Rattle.store.proofs.Choice.{true-false}
 use Rattle.store.specs.Area.{at}
 use Rattle.store.specs.Layout.{activities, clauseCount, clauseIds, clauseParents}
@@ -95,11 +96,11 @@ module _ (w : List ℕ) (b : Best) (k rank : ℕ) (is : k ≡ rank) where
           pub visited-beside : Beside s w
           visited-beside = rw (q, is) (beside-visited w w (beside-self w ok) rank l)
 
-          pub weigh-open : (d e : Best) (x n c : ℕ) → metAt w k ≡ Opened x n c → d ≡ bestAt s rank x n c → e ≡ better b d → (On e 0 ≡ weighOf w b rank) × (s ≡ weighed w b rank)
+          pub weigh-open : (d e : Best) (x n c : ℕ) → metAt w k ≡ Opened x n c → d ≡ bestAt s rank x n c → e ≡ better 1 b d → (On e 0 ≡ weighOf w b rank) × (s ≡ weighed w b rank)
           unfolding weighOf bestAt
           weigh-open d e x n c h z y =
               let a : at activities n s ≡ at activities n w = at-beside s w visited-beside activities tt n in
-              let f : e ≡ better b (bestAt w rank x n c) = y ∙ ap (better b) (z ∙ rw a) in
+              let f : e ≡ better 1 b (bestAt w rank x n c) = y ∙ ap (better 1 b) (z ∙ rw a) in
               (rw (f, ← is, m, t, p, h), weighed-left)
 
 -- what it leaves: a fine best, and at most one drop
@@ -118,16 +119,16 @@ module _ (w : List ℕ) (b : Best) (k : ℕ) (ok : Sound w) (l : k < at clauseCo
           let f : y ≡ x = cc in
           record { few = omega arith; fine = rw p at fine }
 
-      go : (m t p : Bool) (v : Met) → weighBy m t p v b (λ x n m. better b (bestAt w k x n m)) ≡ On c x → Weighing w c x
+      go : (m t p : Bool) (v : Met) → weighBy m t p v b (λ x n m. better 1 b (bestAt w k x n m)) ≡ On c x → Weighing w c x
       go false t p v q = kept 0 (omega arith) q
       go true true p v q = absurd (true-false (cc))
       go true false true v q = kept 0 (omega arith) q
       go true false false Unqueued q = kept 0 (omega arith) q
       go true false false Dropped q = kept 1 (omega arith) q
       go true false false (Opened y n m) q =
-          let p : better b (bestAt w k y n m) ≡ c = cc in
+          let p : better 1 b (bestAt w k y n m) ≡ c = cc in
           let f : 0 ≡ x = cc in
-          rw (← p, ← f) (record { few = omega arith; fine = better-either (Fine w) b (bestAt w k y n m) fine (best-fine w (bestAt w k y n m) k y n m ok l refl) })
+          rw (← p, ← f) (record { few = omega arith; fine = better-either (Fine w) 1 b (bestAt w k y n m) fine (best-fine w (bestAt w k y n m) k y n m ok l refl) })
       go true false false MetDead q = absurd (true-false (cc))
 
 beside-weighed : (s w : List ℕ) → Beside s w → (b : Best) (k : ℕ) → k < at clauseCount 0 w → Beside (weighed s b k) w
@@ -149,12 +150,12 @@ pub record Second (w s : List ℕ) (n top k : ℕ) (b : Best) (d : ℕ) (whole :
   pub beside : Beside s w
   pub fine : Fine w b
   pub drops : d ≤ k
-  pub rest : whole ≡ afterBest w b k d s
+  pub rest : whole ≡ fromRank w (choosing b d) k s
 
-pub settle-one : (w : List ℕ) (b : Best) (k d : ℕ) → stopsAt w b ≡ true → ended (choosing b d) w ≡ afterBest w b k d w
+pub settle-one : (w : List ℕ) (b : Best) (k d : ℕ) → stopsAt w b ≡ true → ended (choosing b d) w ≡ fromRank w (choosing b d) k w
 settle-one w b k d h = sym (second-stop w b (ranksFrom k (at clauseCount 0 w - k)) d h)
 
-pub begin-second : (w : List ℕ) (n top k : ℕ) (b : Best) (d : ℕ) → Sound w → n ≡ at clauseCount 0 w → top ≡ topAt w → k ≤ at clauseCount 0 w → Fine w b → d ≤ k → Second w w n top k b d (afterBest w b k d w)
+pub begin-second : (w : List ℕ) (n top k : ℕ) (b : Best) (d : ℕ) → Sound w → n ≡ at clauseCount 0 w → top ≡ topAt w → k ≤ at clauseCount 0 w → Fine w b → d ≤ k → Second w w n top k b d (fromRank w (choosing b d) k w)
 begin-second w n top k b d h e t u f z =
     record {
       upto = omega arith;
@@ -175,11 +176,10 @@ module _ (w s : List ℕ) (n top k : ℕ) (b : Best) (d : ℕ) (whole : Answer (
   second-topped : top ≡ topAt s
   second-topped = here .topped ∙ sym (top-same s w (here .beside))
 
-  on-s : (ks : List ℕ) → queuedOn wordOperations (envOf w) b ks d s ≡ queuedOn wordOperations (envOf s) b ks d s
-  on-s ks = ap (λ (e : Environment). queuedOn wordOperations e b ks d s) (sym (env-beside s w (here .beside)))
+  on-s : (ks : List ℕ) → onward (envOf w) (ended (choosing b d) s) ks ≡ onward (envOf s) (ended (choosing b d) s) ks
+  on-s ks = ap (λ (e : Environment). onward e (ended (choosing b d) s) ks) (sym (env-beside s w (here .beside)))
 
   pub second-ends : n ≤ k → ended (choosing b d) s ≡ whole
-  unfolding queuedOn
   second-ends h = sym (here .rest ∙ rw (ranks-done k (at clauseCount 0 w) (omega (arith, here .size))))
 
   module _ (more : k < n) where
@@ -193,7 +193,7 @@ module _ (w s : List ℕ) (n top k : ℕ) (b : Best) (d : ℕ) (whole : Answer (
       pub second-beside : Beside u w
       second-beside = rw q (beside-weighed s w (here .beside) b k second-inside)
 
-      second-rest : whole ≡ queuedOn wordOperations (envOf s) b (k ∷ ranksFrom (k + 1) (at clauseCount 0 w - (k + 1))) d s
+      second-rest : whole ≡ onward (envOf s) (ended (choosing b d) s) (k ∷ ranksFrom (k + 1) (at clauseCount 0 w - (k + 1)))
       second-rest = here .rest ∙ rw (ranks-next k (at clauseCount 0 w) second-inside) (on-s (k ∷ ranksFrom (k + 1) (at clauseCount 0 w - (k + 1))))
 
       pub second-weighing : (c : Best) (x : ℕ) → weighOf s b k ≡ On c x → Weighing s c x
@@ -203,9 +203,9 @@ module _ (w s : List ℕ) (n top k : ℕ) (b : Best) (d : ℕ) (whole : Answer (
       second-turn c x h =
           let f = second-weighing c x h in
           let count : at clauseCount 0 s ≡ at clauseCount 0 w = at-beside s w (here .beside) clauseCount tt 0 in
-          let e : queuedOn wordOperations (envOf s) c (ranksFrom (k + 1) (at clauseCount 0 w - (k + 1))) (d + x) (weighed s b k) ≡ afterBest w c (k + 1) (d + x) u =
-          ap (λ (v : Environment). queuedOn wordOperations v c (ranksFrom (k + 1) (at clauseCount 0 w - (k + 1))) (d + x) (weighed s b k)) (env-beside s w (here .beside))
-          ∙ ap (afterBest w c (k + 1) (d + x)) (sym q) in
+          let e : onward (envOf s) (ended (choosing c (d + x)) (weighed s b k)) (ranksFrom (k + 1) (at clauseCount 0 w - (k + 1))) ≡ fromRank w (choosing c (d + x)) (k + 1) u =
+          ap (λ (v : Environment). onward v (ended (choosing c (d + x)) (weighed s b k)) (ranksFrom (k + 1) (at clauseCount 0 w - (k + 1)))) (env-beside s w (here .beside))
+          ∙ ap (fromRank w (choosing c (d + x)) (k + 1)) (sym q) in
           record {
             upto = omega arith;
             size = here .size;
@@ -214,19 +214,20 @@ module _ (w s : List ℕ) (n top k : ℕ) (b : Best) (d : ℕ) (whole : Answer (
             beside = second-beside;
             fine = record { clause< = omega (arith, f .fine .clause<, count); activity≤ = f .fine .activity≤ };
             drops = omega (arith, f .few, here .drops);
-            rest = second-rest ∙ second-on s b k (ranksFrom (k + 1) (at clauseCount 0 w - (k + 1))) d c x h ∙ e;
+            rest = second-rest ∙ ap (λ y. onward (envOf s) y (ranksFrom (k + 1) (at clauseCount 0 w - (k + 1)))) (second-on s b k d c x h) ∙ e;
           }
 
       pub second-stops : weighOf s b k ≡ Enough → ended (choosing b d) u ≡ whole
       second-stops h =
-          let e = second-enough s b k (ranksFrom k (at clauseCount 0 w - k)) d h in
+          let e = second-enough s b k d h in
           sym (here .rest ∙ on-s (ranksFrom k (at clauseCount 0 w - k)) ∙ second-stop s b (ranksFrom k (at clauseCount 0 w - k)) d (e .0) ∙ ap (ended (choosing b d)) (sym (q ∙ e .1)))
 
       pub second-dead : weighOf s b k ≡ Fatal → ended (dying (at clauseIds k u) d) u ≡ whole
       second-dead h =
           let i : at clauseIds k u ≡ ofClause clauseIds s k =
           at-beside u w second-beside clauseIds tt k ∙ sym (at-beside s w (here .beside) clauseIds tt k) ∙ sym (clause-word clauseIds s k (second-ready .1)) in
-          sym (second-rest ∙ second-fatal s b k (ranksFrom (k + 1) (at clauseCount 0 w - (k + 1))) d h ∙ rw (i, q))
+          sym (second-rest ∙ ap (λ y. onward (envOf s) y (ranksFrom (k + 1) (at clauseCount 0 w - (k + 1)))) (second-fatal s b k d h)
+          ∙ stays-ended (envOf s) (DeadClause (ofClause clauseIds s k)) d (weighed s b k) (λ _. refl) (ranksFrom (k + 1) (at clauseCount 0 w - (k + 1))) ∙ rw (i, q))
 
 -- the walk to the first best
 pub record First (w s : List ℕ) (n k d : ℕ) : Type 0 where
@@ -235,24 +236,25 @@ pub record First (w s : List ℕ) (n k d : ℕ) : Type 0 where
   pub few : n ≤ clauses
   pub beside : Beside s w
   pub drops : d ≤ k
-  pub rest : answer w ≡ toFirstBest w k d s
+  pub rest : answer w ≡ fromRank w (soFar Nothing d) k s
 
 pub begin-first : (w : List ℕ) (n : ℕ) → Sound w → n ≡ at clauseCount 0 w → First w w n 0 0
-unfolding answer
+unfolding answer upTo
 begin-first w n h e =
     let z : at clauseCount 0 w - 0 ≡ at clauseCount 0 w = omega arith in
+    let y : 0 + at clauseCount 0 w ≡ at clauseCount 0 w = omega arith in
+    let walk : Answer (List ℕ) → ℕ → Answer (List ℕ) = queuedTurn wordOperations (envOf w) in
     record {
       upto = omega arith;
       size = e;
       few = omega (arith, h .ranges clauseCount clauses tt 0);
       beside = beside-self w h;
       drops = omega arith;
-      rest = rw z;
+      rest = rw z (sym (onward-is walk (ended (soFar Nothing 0) w) 0 (at clauseCount 0 w) ∙ ap (upTo walk (ended (soFar Nothing 0) w)) y));
     }
 
 module _ (w s : List ℕ) (n k d : ℕ) (here : First w s n k d) where
   pub first-ends : n ≤ k → ended (record { out = Nothing; drops = d }) s ≡ answer w
-  unfolding queuedFrom
   first-ends h = sym (here .rest ∙ rw (ranks-done k (at clauseCount 0 w) (omega (arith, here .size))))
 
   module _ (j : ℕ) (more : k < n) (is : j ≡ k) where
@@ -265,7 +267,7 @@ module _ (w s : List ℕ) (n k d : ℕ) (here : First w s n k d) where
     abbrev later : List ℕ
     later = ranksFrom (k + 1) (at clauseCount 0 w - (k + 1))
 
-    first-rest : answer w ≡ queuedFrom wordOperations (envOf w) (k ∷ later) d s
+    first-rest : answer w ≡ onward (envOf w) (ended (soFar Nothing d) s) (k ∷ later)
     first-rest = here .rest ∙ rw (ranks-next k (at clauseCount 0 w) first-inside)
 
     module _ (u : List ℕ) (q : u ≡ visited s j) where
@@ -275,31 +277,33 @@ module _ (w s : List ℕ) (n k d : ℕ) (here : First w s n k d) where
       pub first-beside : Beside u w
       first-beside = rw first-left (beside-visited s w (here .beside) k first-inside)
 
-      first-turn : (c : ℕ) → c ≤ k + 1 → answer w ≡ toFirstBest w (k + 1) c u → First w u n (k + 1) c
+      first-turn : (c : ℕ) → c ≤ k + 1 → answer w ≡ fromRank w (soFar Nothing c) (k + 1) u → First w u n (k + 1) c
       first-turn c l e = record { upto = omega arith; size = here .size; few = here .few; beside = first-beside; drops = l; rest = e }
+
+      first-met : answer w ≡ onward (envOf w) (ended (turned (envOf w) Nothing k d (metAt s j)) u) later
+      first-met = first-rest ∙ ap (λ x. onward (envOf w) x later) (visit-turn (envOf w) Nothing d s k refl ∙ rw (first-left, is))
 
       pub first-turn-unqueued : metAt s j ≡ Unqueued → First w u n (k + 1) d
       first-turn-unqueued h =
-          first-turn d (omega (arith, here .drops)) (first-rest ∙ first-unqueued (envOf w) s k later d (sym (ap (metAt s) is) ∙ h) ∙ ap (toFirstBest w (k + 1) d) (sym first-left))
+          first-turn d (omega (arith, here .drops)) (first-met ∙ rw h)
 
       pub first-turn-dropped : metAt s j ≡ Dropped → First w u n (k + 1) (d + 1)
       first-turn-dropped h =
-          first-turn (d + 1) (omega (arith, here .drops)) (first-rest ∙ rw (add-one d) (first-dropped (envOf w) s k later d (sym (ap (metAt s) is) ∙ h) ∙ rw (← first-left)))
+          first-turn (d + 1) (omega (arith, here .drops)) (first-met ∙ rw (h, add-one d))
 
       pub first-dies : metAt s j ≡ MetDead → ended (dying (at clauseIds k u) d) u ≡ answer w
       first-dies h =
           let same : at clauseIds k u ≡ ofClause clauseIds w k = at-beside u w first-beside clauseIds tt k ∙ sym (clause-word clauseIds w k first-inside) in
-          sym (first-rest ∙ first-dead (envOf w) s k later d (sym (ap (metAt s) is) ∙ h) ∙ rw (← first-left, same))
+          sym (first-met ∙ rw (h, same) (stays-ended (envOf w) (DeadClause (ofClause clauseIds w k)) d u (λ _. refl) later))
 
       -- what follows the first best is the rest of the walk
       module _ (b : Best) (x m c : ℕ) (e : b ≡ bestAt u k x m c) where
-        pub first-settles : metAt s j ≡ Opened x m c → afterBest u b (k + 1) d u ≡ answer w
+        pub first-settles : metAt s j ≡ Opened x m c → fromRank u (choosing b d) (k + 1) u ≡ answer w
         unfolding bestAt
         first-settles h =
             let f : b ≡ best (envOf w) k x m c = e ∙ ap (λ (v : Environment). best v k x m c) (env-beside u w first-beside) in
-            let g : afterBest u b (k + 1) d u ≡ afterBest w b (k + 1) d u = ap (λ (v : Environment). queuedOn wordOperations v b (ranksFrom (k + 1) (v .size - (k + 1))) d u) (env-beside u w first-beside) in
-            g ∙ ap (λ (y : Best). afterBest w y (k + 1) d u) f
-            ∙ sym (first-rest ∙ first-open (envOf w) s k later d x m c (sym (ap (metAt s) is) ∙ h) ∙ ap (afterBest w (best (envOf w) k x m c) (k + 1) d) (sym first-left))
+            let g : fromRank u (choosing b d) (k + 1) u ≡ fromRank w (choosing b d) (k + 1) u = ap (λ (v : Environment). onward v (ended (choosing b d) u) (ranksFrom (k + 1) (v .size - (k + 1)))) (env-beside u w first-beside) in
+            g ∙ ap (λ (y : Best). fromRank w (choosing y d) (k + 1) u) f ∙ sym (first-met ∙ rw h)
 
         pub settle-ready : (Sound u) × (k + 1 ≤ at clauseCount 0 u) × (Fine u b) × (d ≤ k + 1)
         settle-ready =

@@ -148,14 +148,14 @@ best-is w k x n m a e = rw e
 
 -- the better of two
 module _ (b d : Best) where
-  pub better-new : ltb (b .activity) (d .activity) ≡ true → d .count < b .count → d ≡ better b d
-  better-new h i = rw (h, lt-ltb (d .count) (b .count) i, better)
+  pub better-new : ltb (b .activity) (d .activity) ≡ true → d .count < b .count → d ≡ better 1 b d
+  better-new h i = rw (h, lt-ltb (d .count) (b .count) i)
 
-  pub better-few : ltb (b .activity) (d .activity) ≡ true → b .count ≤ d .count → b ≡ better b d
-  better-few h i = rw (h, le-ltb (d .count) (b .count) i, better)
+  pub better-few : ltb (b .activity) (d .activity) ≡ true → b .count ≤ d .count → b ≡ better 1 b d
+  better-few h i = rw (h, le-ltb (d .count) (b .count) i)
 
-  pub better-low : ltb (b .activity) (d .activity) ≡ false → b ≡ better b d
-  better-low h = rw (h, better)
+  pub better-low : ltb (b .activity) (d .activity) ≡ false → b ≡ better 1 b d
+  better-low h = rw h
 
 -- unsynced
 module _ (w : List ℕ) (f m : ℕ) (e : f ≡ at syncFloor 0 w) (q : m ≡ at mirrorLength 0 w) where

@@ -1,6 +1,6 @@
 -- The proposal at the words: the walk over the queued clauses, its answer as document 01 gives it, and the words that it leaves.
 use mathlib.Core.Bool.{Bool, cond, _||_}
-use mathlib.Core.List.{List, [], _∷_}
+use mathlib.Core.List.{List, [], _∷_, foldl}
 use mathlib.Core.Path.{_≡_}
 use Prim.Native.Nat.{ℕ, _-_}
 use lib.Dec.{ltb}
@@ -8,8 +8,9 @@ use lib.Ieee.{binary32, ofBits, toBits}
 use Rattle.evaluate.specs.Standing.{envOf, ofClause}
 use Rattle.examine.specs.Cache.{wordOperations}
 use Rattle.proposal.specs.Turn.{Fine}
-use Rattle.rules.specs.Queue.{Answer, queuedFrom, queuedOn}
-use Rattle.rules.specs.Walk.{ranks, ranksFrom}
+use Rattle.rules.specs.Position.{ranksFrom}
+use Rattle.rules.specs.Queue.{Answer, queuedTurn, queuedWalk}
+use Rattle.rules.specs.Walk.{Environment}
 use Rattle.store.specs.Area.{at}
 use Rattle.store.specs.Layout.{clauseCount, clauseIds, clauseParents, mirrorLength, syncFloor, trailLength}
 use Rattle.store.specs.Refusals.{badStore, deadClause, notSynced}
@@ -21,29 +22,33 @@ use Rattle.proposal.specs.declared.Proposal.{Proposal}
 use Rattle.proposal.specs.declared.Proposal.the-variants.{Choose as Chosen, Nothing as NoneOpen, Dead as DeadAt, Refused}
 use Rattle.proposal.specs.declared.decide_queue.Walked.{Walked}
 
--- the walk from rank k on, to the first best
-abbrev pub toFirstBest : List ℕ → ℕ → ℕ → List ℕ → Answer (List ℕ)
-toFirstBest w k d s = queuedFrom wordOperations (envOf w) (ranksFrom k (at clauseCount 0 w - k)) d s
-
--- after the first best b
-abbrev pub afterBest : List ℕ → Best → ℕ → ℕ → List ℕ → Answer (List ℕ)
-afterBest w b k d s = queuedOn wordOperations (envOf w) b (ranksFrom k (at clauseCount 0 w - k)) d s
-
 -- the whole walk
 unfoldable pub answer : List ℕ → Answer (List ℕ)
-answer w = queuedFrom wordOperations (envOf w) (ranks (envOf w .size)) 0 w
+answer w = queuedWalk wordOperations (envOf w) w
+
+-- an answer so far
+abbrev pub soFar : Out → ℕ → Walked
+soFar y d = record { out = y; drops = d }
 
 -- it ends at its best
 abbrev pub choosing : Best → ℕ → Walked
-choosing b d = record { out = Choose b; drops = d }
+choosing b d = soFar (Choose b) d
 
 -- at a dead clause of this id
 abbrev pub dying : ℕ → ℕ → Walked
-dying id d = record { out = DeadClause id; drops = d }
+dying id d = soFar (DeadClause id) d
 
 -- an end of the walk with the words that it leaves
 abbrev pub ended : Walked → List ℕ → Answer (List ℕ)
 ended r s = record { out = r .out; drops = r .drops; left = s }
+
+-- the walk over clauses that are left
+abbrev pub onward : Environment → Answer (List ℕ) → List ℕ → Answer (List ℕ)
+onward e x ks = foldl (queuedTurn wordOperations e) x ks
+
+-- from rank k on
+abbrev pub fromRank : List ℕ → Walked → ℕ → List ℕ → Answer (List ℕ)
+fromRank w r k s = onward (envOf w) (ended r s) (ranksFrom k (at clauseCount 0 w - k))
 
 -- what is chosen is a clause of the store with a good activity
 pub record Sane (w : List ℕ) (o : Out) : Type 0 where

@@ -5,7 +5,7 @@ use Prim.Native.Nat.{ℕ, zero, suc, _+_, _≤_, _<_}
 use lib.Dec.{eqb}
 use Rattle.evaluate.specs.Standing.{envOf, markOf, ofClause}
 use Rattle.examine.specs.Cache.{metAt, visited}
-use Rattle.rules.specs.Walk.{best, better, isHot, largest, passedOver, stops}
+use Rattle.rules.specs.Walk.{best, better, isHot, largest, narrow, passedOver, stops}
 use Rattle.store.specs.Area.{at}
 use Rattle.store.specs.Codes.{root}
 use Rattle.store.specs.Layout.{clauseCount, clauseParents}
@@ -22,7 +22,7 @@ hotAt w k = isHot (envOf w) k
 
 -- "in standard mode only hot ones"
 unfoldable pub coldAt : List ℕ → ℕ → Bool
-coldAt w k = envOf w .standard && not (isHot (envOf w) k)
+coldAt w k = narrow (envOf w) && not (isHot (envOf w) k)
 
 -- "If the best's parent is the root, clauses of other parents are passed over unexamined"
 unfoldable pub shieldedAt : List ℕ → Best → ℕ → Bool
@@ -65,7 +65,7 @@ weighBy true false false MetDead b f = Fatal
 
 -- of clause k on the words
 unfoldable pub weighOf : List ℕ → Best → ℕ → Weighed
-weighOf w b k = weighBy (markOf w k) (stopsAt w b) (passedAt w b k) (metAt w k) b (λ x n m. better b (bestAt w k x n m))
+weighOf w b k = weighBy (markOf w k) (stopsAt w b) (passedAt w b k) (metAt w k) b (λ x n m. better (envOf w .rule) b (bestAt w k x n m))
 
 -- and the words left
 unfoldable pub weighed : List ℕ → Best → ℕ → List ℕ

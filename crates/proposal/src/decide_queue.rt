@@ -11,7 +11,7 @@ ghost use Rattle.rules.specs.Walk.{anyHot, better};
 ghost use Rattle.evaluate.specs.Standing.{envOf};
 ghost use Rattle.evaluate.specs.View.{from, listAt};
 ghost use Rattle.proposal.specs.Turn.{hotAt, coldAt, shieldedAt, passedAt, largestAt, topAt, stopsAt, bestAt, weighOf, weighed, Fine, nextQueued};
-ghost use Rattle.proposal.specs.Propose.{choosing, dying, afterBest, answer, ended, Sane, proposalIn, proposalInStore};
+ghost use Rattle.proposal.specs.Propose.{choosing, dying, fromRank, answer, ended, Sane, proposalIn, proposalInStore};
 use crate::Proposal;
 use examine::Met;
 use examine::inspection;
@@ -142,7 +142,7 @@ fn stops(s: &[u32], b: Best, highest: u32) -> bool
 // The better of two: the second if its activity is strictly higher and its count strictly lower.
 fn better_of(b: Best, d: Best) -> Best
     requires { ⌜ (b .activity ≤ lastActivity) × (d .activity ≤ lastActivity) ⌝ }
-    ensures { λ r. ⌜ r ≡ better b d ⌝ }
+    ensures { λ r. ⌜ r ≡ better 1 b d ⌝ }
 {
     if activity::higher(b.activity, d.activity) {
         if d.count < b.count {
@@ -248,7 +248,7 @@ fn next_queued(s: &[u32], k: u32, n: u32) -> u32
 // The walk from a best on.
 fn settle(s: &mut [u32], from: u32, first: Best, drops: u32) -> Walked
     requires { ⌜ (Sound (now s)) × (from ≤ at clauseCount 0 (now s)) × (Fine (now s) first) × (drops ≤ from) ⌝ }
-    ensures { λ r. ⌜ (ended r (now (s .exit)) ≡ afterBest (now (s .entry)) first from drops (now (s .entry))) × (Sane (now (s .entry)) (r .out)) ⌝ }
+    ensures { λ r. ⌜ (ended r (now (s .exit)) ≡ fromRank (now (s .entry)) (choosing first drops) from (now (s .entry))) × (Sane (now (s .entry)) (r .out)) ⌝ }
 {
     if first.count == 1 {
         return chosen(first, drops);

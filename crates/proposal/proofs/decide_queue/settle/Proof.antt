@@ -5,12 +5,12 @@ use borrow.Author.Needs.{needs}
 use Rattle.proposal.proofs.Loops.{Second, as-told, begin-second, sane-choose, sane-dead, second-beside, second-dead, second-ends, second-ready, second-stops, second-turn, second-weighing, settle-one}
 use Rattle.proposal.proofs.Skipping.{next-less, next-ready, second-skip}
 use Rattle.proposal.proofs.Steps.{stop-one}
-use Rattle.proposal.specs.Propose.{afterBest}
+use Rattle.proposal.specs.Propose.{choosing, fromRank}
 use Rattle.proposal.proofs.decide_queue.settle.Statement.{statement}
 use Rattle.proposal.proofs.decide_queue.settle.Tie as tie
 
 abbrev Inv-loop : tie.InvT-loop
-Inv-loop s₀ from drops n highest k₀ b₀ d₀ s k b d = Second s₀ s n highest k b d (afterBest s₀ b₀ from d₀ s₀)
+Inv-loop s₀ from drops n highest k₀ b₀ d₀ s k b d = Second s₀ s n highest k b d (fromRank s₀ (choosing b₀ d₀) from s₀)
 
 abbrev μ-loop : tie.MeasureT-loop
 μ-loop s₀ from drops n highest k₀ b₀ d₀ s k b d = n - k
