@@ -28,7 +28,6 @@ reached-holds w r u =
 -- DEMAND 2: on a reached and synced store the proposal is the walk's, over the clauses, tables, activities, hot names and mode (`envOf w`)
 -- and the present assignment alone; only the number of dropped clauses is the queue's
 pub demand2 : (w : List ℕ) → ReachedWords w → unsynced w ≡ false → proposalOut w ≡ told w (walk (envOf w) (assigned w)) (answer w .drops)
-unfolding proposalOut
 demand2 w r u = rw (reached-sound w r, u) (proposal-is w (reached-genuine w r .sound) (reached-holds w r u))
 
 -- two stores that have all but the mode in common have one environment, but for the mode

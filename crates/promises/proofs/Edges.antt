@@ -14,25 +14,25 @@ use Rattle.promises.specs.Scripts.{Line, answers, calls, expected, p1, p
 use Rattle.store.specs.Layout.{words}
 use Rattle.clauses.specs.Names.{otherName, newName, nameCount, newNames, distinctNames}
 use Rattle.clauses.specs.Record.{behindLast}
-use Rattle.clauses.specs.Register.{knownCondition, conditionWord, literalCountOf, allNamed, hasRoom, registerIn, queuedMark, recordIn, registered}
+use Rattle.clauses.specs.Register.{knownCondition, conditionWord, literalCountOf, allNamed, hasRoom, queuedMark, recordIn, registered, registerTests}
 use Rattle.conditions.specs.Dnf.{behind, cross, nodeTerms, dnf, linked}
-use Rattle.conditions.specs.Rewrite.{tooMuch, rewriteIn, rewriteInLengths, rewriteInCells}
+use Rattle.conditions.specs.Rewrite.{tooMuch, rewriteInLengths, rewriteInCells, rewriteTests}
 use Rattle.evaluate.specs.Standing.{ofClause, cacheBy, cacheOf, markOf}
 use Rattle.evaluate.specs.View.{assigned, from, listAt, listsAt, literalAt, literalsAt}
 use Rattle.examine.specs.Cache.{cached, saved, seenAt, filled}
-use Rattle.promises.proofs.Stepping.{Ran, proposed, ran, run-is, runIn, stepIn}
-use Rattle.proposal.specs.Propose.{answer, unsynced}
+use Rattle.promises.proofs.Stepping.{Ran, ran, run-is, runIn, stepIn}
+use Rattle.proposal.specs.Propose.{answer, proposalIn, proposalInStore, unsynced}
 use Rattle.requirement.specs.Copy.{tabled}
-use Rattle.requirement.specs.Load.{adds, known, fitting, loadIn, putLists, tableAt, loadedSingle, loadedUnion, loaded as tableMade}
+use Rattle.requirement.specs.Load.{adds, known, fitting, putLists, tableAt, loadedSingle, loadedUnion, loaded as tableMade, loadTests}
 use Rattle.requirement.specs.Tables.{requirementOf, firstSlot, setCount, listCount, setOf, cellsOf}
 use Rattle.rules.specs.Queue.{seen, queuedTurn}
 use Rattle.rules.specs.Sweep.{touches}
 use Rattle.rules.specs.Sync.{meets}
 use Rattle.rules.specs.Walk.{member, allFalse, flattened, firstTrue, firstUndecided, countUndecided, frontier, evaluate, largest, anyHot, upTo}
 use Rattle.settings.specs.Activity.{good, admitted}
-use Rattle.settings.specs.Settings.{hotIn, hotInStore, activityWith, quiet, activityOn, activityOnStore, activityIn, activityInStore}
+use Rattle.settings.specs.Settings.{activityWith, quiet, activityOn, activityOnStore, activityTests}
 use Rattle.store.specs.Area.{area, at, put, putRun, blank}
-use Rattle.store.specs.Fresh.{freshStore, freshWords}
+use Rattle.store.specs.Fresh.{freshWords, freshRow}
 use Rattle.store.specs.Lent.{lengthsOf, joined, over}
 use Rattle.store.specs.Numbers.{allFrom}
 use Rattle.store.specs.Ranks.{moved, inserted}
@@ -40,15 +40,14 @@ use Rattle.store.specs.Shape.{every}
 use Rattle.sync.specs.Sweep.{sweep}
 use Rattle.sync.specs.Sync.{wordsFrom, oldEntries, newEntries, touchedIn, touchesIn, wakesAt, spoilsAt, wokenWords, spoiledWords, sweptWords, copiedWords, mirroredWords, syncInStore}
 use Rattle.tables.specs.Answer.{loaded}
-use Rattle.tables.specs.Condition.{leafIn, branchIn, loadConditionIn, leafed, branched, nodePut}
+use Rattle.tables.specs.Condition.{leafIn, branchIn, leafed, branched, nodePut, loadConditionTests}
 use Rattle.tables.specs.Disjunction.{literalsOf}
-use Rattle.tables.specs.VersionSet.{loadVersionSetIn}
-use Rattle.trail.specs.Assign.{assignOn, assignIn, pushed}
+use Rattle.tables.specs.VersionSet.{loadVersionSetTests}
+use Rattle.trail.specs.Assign.{assignOn, pushed, assignTests}
 use Rattle.trail.specs.Cell.{cellValue, cellSide, cellLevel, cellOf}
 use Rattle.trail.specs.Entries.{decisionAt, levelAt, levelOfLast, entryAbove}
-use Rattle.trail.specs.Look.{valueIn}
-use Rattle.trail.specs.UndoLast.{popped, undoLastIn, undoLastInStore}
-use Rattle.trail.specs.UndoUntil.{poppedTo, cleared, noStop, undoUntilIn, undoUntilInStore}
+use Rattle.trail.specs.UndoLast.{popped, undoLastTests}
+use Rattle.trail.specs.UndoUntil.{poppedTo, cleared, noStop, undoUntilTests}
 use lib.Ieee.{odd, ofFields, ofBits, toBits, size, climb, span}
 
 -- a script's calls answer what they must
@@ -89,7 +88,7 @@ abbrev third : Ran
 third = runIn first (calls p3)
 
 start-is : start ≡ first
-unfolding start freshStore
+unfolding start freshRow
 start-is = refl
 
 start-genuine : Genuine start
@@ -126,7 +125,7 @@ unfoldable onwardOf : Ran → List (List (List ℕ))
 onwardOf r = r .said ∷ eachIn (r .left) onward
 
 computed : (eachIn first alone ≡ map expected alone) × (onwardOf third ≡ map expected (p3 ∷ onward))
-unfolding otherName newName nameCount newNames distinctNames behindLast knownCondition conditionWord literalCountOf allNamed hasRoom registerIn queuedMark recordIn registered behind cross nodeTerms dnf linked lengthsOf joined tooMuch rewriteIn over rewriteInLengths rewriteInCells ofClause cacheBy cacheOf markOf assigned from listAt listsAt literalAt literalsAt cached saved seenAt filled proposed runIn stepIn answer unsynced tabled adds known fitting loadIn putLists tableAt loadedSingle loadedUnion tableMade requirementOf firstSlot setCount listCount setOf cellsOf seen queuedTurn upTo touches meets member allFalse flattened firstTrue firstUndecided countUndecided frontier evaluate largest anyHot good admitted hotIn hotInStore activityWith quiet activityOn activityOnStore activityIn activityInStore area at put putRun blank freshWords allFrom moved inserted every sweep wordsFrom oldEntries newEntries touchedIn touchesIn wakesAt spoilsAt wokenWords spoiledWords sweptWords copiedWords mirroredWords syncInStore loaded leafIn branchIn loadConditionIn leafed branched nodePut literalsOf loadVersionSetIn assignOn assignIn pushed cellValue cellSide cellLevel cellOf decisionAt levelAt levelOfLast entryAbove valueIn popped undoLastIn undoLastInStore poppedTo cleared noStop undoUntilIn undoUntilInStore odd ofFields ofBits toBits size climb span onwardOf
+unfolding otherName newName nameCount newNames distinctNames behindLast knownCondition conditionWord literalCountOf allNamed hasRoom registerTests queuedMark recordIn registered behind cross nodeTerms dnf linked lengthsOf joined tooMuch rewriteTests over rewriteInLengths rewriteInCells ofClause cacheBy cacheOf markOf assigned from listAt listsAt literalAt literalsAt cached saved seenAt filled proposalIn proposalInStore runIn stepIn answer unsynced tabled adds known fitting loadTests putLists tableAt loadedSingle loadedUnion tableMade requirementOf firstSlot setCount listCount setOf cellsOf seen queuedTurn upTo touches meets member allFalse flattened firstTrue firstUndecided countUndecided frontier evaluate largest anyHot good admitted activityWith quiet activityOn activityOnStore activityTests area at put putRun blank freshWords allFrom moved inserted every sweep wordsFrom oldEntries newEntries touchedIn touchesIn wakesAt spoilsAt wokenWords spoiledWords sweptWords copiedWords mirroredWords syncInStore loaded leafIn branchIn loadConditionTests leafed branched nodePut literalsOf loadVersionSetTests assignOn assignTests pushed cellValue cellSide cellLevel cellOf decisionAt levelAt levelOfLast entryAbove popped undoLastTests poppedTo cleared noStop undoUntilTests odd ofFields ofBits toBits size climb span onwardOf
 computed = (refl, refl)
 
 alone-say : each start alone ≡ map expected alone

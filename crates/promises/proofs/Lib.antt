@@ -1,3 +1,4 @@
+pub mod Rows
 pub mod Genuine
 pub mod Trails
 pub mod Starting
@@ -17,7 +18,6 @@ pub mod UnreadProposal
 pub mod UnreadLeft
 pub mod Unread
 pub mod Settled
-pub mod Lent
 pub mod Calling
 pub mod Clauses
 pub mod Positions

@@ -7,16 +7,17 @@ use Prim.Native.Nat.{ℕ, _≤_, _<_}
 use borrow.Author.Tests.{le-leb}
 use lib.ListN.{length}
 use Rattle.clauses.proofs.Registers.{done-placed}
-use Rattle.clauses.specs.Register.{Placed, conditionWord, registerIn, registerInStore, registerLeft, registerOut, registerStore, registered}
+use Rattle.clauses.specs.Register.{Placed, conditionWord, registerOut, registerStore, registerTests, registered}
 use Rattle.evaluate.proofs.Records.{clause-none}
 use Rattle.evaluate.specs.Standing.{envOf, ofClause, storeOf}
 use Rattle.evaluate.specs.View.{literalsAt}
+use Rattle.promises.proofs.Rows.{judged-both}
 use Rattle.promises.proofs.Calling.{call-genuine}
 use Rattle.promises.proofs.Clauses.{by-outside, load-candidates-clauses, load-condition-clauses, load-disjunction-clauses, load-union-clauses, load-version-set-clauses}
 use Rattle.promises.proofs.Genuine.{Genuine}
 use Rattle.promises.proofs.Registering.{register-is}
 use Rattle.promises.proofs.Starting.{fresh-genuine, fresh-is}
-use Rattle.imbolaverk.specs.Calls.{Call, fresh, load-version-set, load-union, load-candidates, load-disjunction, load-condition, register, mark-hot, set-activity, set-mode, assign, undo-last, undo-until, next-unpropagated, sync, propose, value-of, clause-of, trail-length, copy-trail, copy-candidates, rewrite, disjunct-holds, settings, name-of, ReachedWords, leftBy, run}
+use Rattle.imbolaverk.specs.Calls.{Call, fresh, load-version-set, load-union, load-candidates, load-disjunction, load-condition, register, mark-hot, set-activity, set-mode, assign, undo-last, undo-until, next-unpropagated, sync, propose, ReachedWords, leftBy, run, ask}
 use Rattle.promises.specs.History.{filing, filings, historyOf, ifMade, ifRegistered}
 use Rattle.promises.specs.Six.{SameClauses}
 use Rattle.requirement.specs.Tables.{keyAt}
@@ -25,11 +26,12 @@ use Rattle.rules.proofs.Placing.{fresh-position, register-position}
 use Rattle.rules.specs.Position.{ranks, History, InPosition, SameHistory, filed, noHistory}
 use Rattle.rules.specs.Store.{Store}
 use Rattle.store.proofs.Choice.{lt-or}
+use Rattle.store.proofs.Rows.{judged-clear}
+use Rattle.store.specs.declared.Made.the-variants.{Done as MadeDone}
+use Rattle.store.specs.Row.{guarded}
 use Rattle.store.specs.Area.{Area, at}
-use Rattle.store.specs.Fresh.{freshOut, freshStore}
+use Rattle.store.specs.Fresh.{freshOut, freshStore, freshRow}
 use Rattle.store.specs.Layout.{clauseConditions, clauseCount, clauseIds, clauseParents, clauseRequirements, words}
-use Rattle.store.specs.Shape.{soundShape}
-use Rattle.clauses.specs.declared.Registered.{Registered}
 use Rattle.clauses.specs.declared.Registered.the-variants.{Done, Refused}
 
 -- WORDS FOLLOW A HISTORY if their clauses are, rank by rank, the registered ones by position
@@ -52,9 +54,12 @@ module _ (w : List ℕ) (long : words ≤ length w) where
   begins-follows : Follows (freshStore w) noHistory
   begins-follows = fresh-position (storeOf (freshStore w)) (fresh-is w long)
 
+  made-done : freshOut w ≡ MadeDone
+  unfolding freshRow
+  made-done = rw (le-leb words (length w) long)
+
   fresh-follows : (h : History) → Follows (freshStore w) (ifMade (freshOut w) noHistory h)
-  unfolding freshOut
-  fresh-follows h = rw (le-leb words (length w) long) begins-follows
+  fresh-follows h = rw made-done begins-follows
 
 -- a registration is document 01's, which keeps the position order
 module _ (w : List ℕ) (parent key condition clause : ℕ) (h : History) (g : Genuine w) (f : Follows w h) where
@@ -66,19 +71,10 @@ module _ (w : List ℕ) (parent key condition clause : ℕ) (h : History) (g : G
 
 register-follows : (w : List ℕ) (parent kind requirement condition clause : ℕ) (h : History) → Genuine w → Follows w h →
     Follows (registerStore w parent kind requirement condition clause) (ifRegistered (registerOut w parent kind requirement condition) (filed h parent (keyAt kind requirement) (literalsAt w (conditionWord condition)) clause) h)
-unfolding registerStore registerInStore registerOut
-register-follows w parent kind requirement condition clause h g f = go (soundShape w) (registerIn w parent kind requirement condition) refl
-  where
-    made : List ℕ
-    made = registered w parent (keyAt kind requirement) condition clause
-
-    next : History
-    next = filed h parent (keyAt kind requirement) (literalsAt w (conditionWord condition)) clause
-
-    go : (b : Bool) (r : Registered) → registerIn w parent kind requirement condition ≡ r → Follows (cond b (registerLeft r made w) w) (ifRegistered (cond b r (Refused 1)) next h)
-    go true Done e = registered-follows w parent (keyAt kind requirement) condition clause h g f (done-placed w parent kind requirement condition e)
-    go true (Refused n) e = f
-    go false r e = f
+register-follows w parent kind requirement condition clause h g f =
+    let tests = registerTests w parent kind requirement condition in
+    judged-both (λ s r. Follows s (ifRegistered r (filed h parent (keyAt kind requirement) (literalsAt w (conditionWord condition)) clause) h)) (λ n. w) Refused (guarded w tests) _ Done (λ n. f)
+    (λ p. registered-follows w parent (keyAt kind requirement) condition clause h g f (done-placed w parent kind requirement condition (judged-clear Refused tests Done (p .1))))
 
 -- every call
 call-follows : (w : List ℕ) (c : Call) (h : History) → Genuine w → Follows w h → Follows (leftBy w c) (filing w c h)
@@ -99,15 +95,7 @@ call-follows w (undo-until level) h g f = stays _ w h (by-outside w (undo-until 
 call-follows w next-unpropagated h g f = stays _ w h (by-outside w next-unpropagated (tt, tt) (tt, tt)) f
 call-follows w sync h g f = stays _ w h (by-outside w sync (tt, (tt, (tt, tt))) (tt, (tt, (tt, tt)))) f
 call-follows w propose h g f = stays _ w h (by-outside w propose (tt, tt) (tt, tt)) f
-call-follows w (value-of variable) h g f = f
-call-follows w (clause-of variable) h g f = f
-call-follows w trail-length h g f = f
-call-follows w (copy-trail list) h g f = f
-call-follows w (copy-candidates kind id lengths cells) h g f = f
-call-follows w (rewrite node lengths cells) h g f = f
-call-follows w (disjunct-holds kinds starts lengths cells) h g f = f
-call-follows w settings h g f = f
-call-follows w (name-of name) h g f = f
+call-follows w (ask q) h g f = f
 
 run-follows : (w : List ℕ) (cs : List Call) (h : History) → Genuine w → Follows w h → Follows (run w cs) (filings w cs h)
 unfolding run filings

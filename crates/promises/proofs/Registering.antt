@@ -1,6 +1,6 @@
 -- REGISTERING IS DOCUMENT 01'S STEP: the words that it leaves stand for the store that `registered` of the rules makes, and stay genuine.
 -- Assumes nothing.
-use mathlib.Core.Bool.{Bool, true, false, cond}
+use mathlib.Core.Bool.{Bool, true, false, cond, not}
 use mathlib.Core.List.{List}
 use mathlib.Core.Logic.{⊎-elim, _≢_}
 use mathlib.Core.Path.{_≡_, refl, sym, ap, subst, _∙_, fun-ext}
@@ -12,7 +12,7 @@ use lib.Dec.{T, leb, ltb, eqb}
 use Rattle.clauses.proofs.Kept.{registered-sound, registered-outside}
 use Rattle.clauses.proofs.Ranking.{rank-most}
 use Rattle.clauses.proofs.ReadBack.{Shifted, shifted-each, parent-shifted, requirement-shifted, condition-shifted, id-shifted, mark-shifted, count-registered}
-use Rattle.clauses.proofs.Registers.{done-placed, left-either}
+use Rattle.clauses.proofs.Registers.{left-either}
 use Rattle.clauses.specs.Record.{behindLast, rankOf}
 use Rattle.clauses.specs.Register.{knownCondition, conditionWord, Placed, queuedMark, registered, registerInStore, registerStore}
 use Rattle.evaluate.proofs.Frames.{cachesRegion, lists-same, literals-same, cache-same, mirror-same, trail-same}
@@ -179,15 +179,13 @@ module _ (w : List ℕ) (parent key condition clause : ℕ) (p : Placed w parent
 -- A CALL THAT REGISTERS keeps words genuine; a refusal leaves them as they are
 module _ (w : List ℕ) (parent kind requirement condition clause : ℕ) (g : Genuine w) where
   inner-genuine : Genuine (registerInStore w parent kind requirement condition clause)
-  unfolding registerInStore
   inner-genuine =
-      left-either Genuine _ _ w
-      (λ e. registered-genuine w parent (keyAt kind requirement) condition clause (done-placed w parent kind requirement condition e) (g .sound) g) g
+      left-either w parent kind requirement condition clause Genuine
+      (λ p. registered-genuine w parent (keyAt kind requirement) condition clause p (g .sound) g) g
 
   pub register-genuine : Genuine (registerStore w parent kind requirement condition clause)
-  unfolding registerStore
   register-genuine = go (soundShape w)
     where
-      go : (b : Bool) → Genuine (cond b (registerInStore w parent kind requirement condition clause) w)
+      go : (b : Bool) → Genuine (cond (not b) w (registerInStore w parent kind requirement condition clause))
       go true = inner-genuine
       go false = g

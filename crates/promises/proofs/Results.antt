@@ -14,6 +14,7 @@ use Rattle.evaluate.specs.View.{assigned, from, listAt, listsAt}
 use Rattle.examine.proofs.Stand.{at-beside}
 use Rattle.promises.proofs.Calling.{reached-genuine, reached-sound}
 use Rattle.promises.proofs.Demands.{demand2, one-proposal, reached-holds}
+use Rattle.imbolaverk.proofs.Links.{propose-told}
 use Rattle.imbolaverk.specs.Calls.{ReachedWords, numberOf, propose}
 use Rattle.promises.specs.Leaving.{Dies, dropsOf, examined, queueSize}
 use Rattle.promises.specs.Six.{SameButMode, undropped}
@@ -47,8 +48,8 @@ use Rattle.sync.specs.declared.Synced.the-variants.{Touches}
 
 -- 7: "a proposal is asked of an unsynced store", exactly
 pub unsynced-exactly : (w : List ℕ) → soundShape w ≡ true → (numberOf w propose ≡ 7) ↔ (unsynced w ≡ true)
-unfolding proposalOut proposalIn
-unsynced-exactly w h = rw h (go (unsynced w))
+unfolding proposalIn
+unsynced-exactly w h = rw (← propose-told w, h) (go (unsynced w))
   where
     other : (o : Out) (d : ℕ) → proposalNumber (told w o d) ≢ 7
     other Nothing d e = omega (arith, e)
@@ -95,7 +96,7 @@ module _ (w : List ℕ) (r : ReachedWords w) where
 
     -- and the number is 8 then alone
     pub eight-exactly : (numberOf w propose ≡ 8) ↔ ((clause : ℕ) × Dies w clause)
-    eight-exactly = (λ e. back (walk (envOf w) (assigned w)) refl (sym (ap proposalNumber (demand2 w r u)) ∙ e), λ d. rw (demand2 w r u, dies (d .0) .1 (d .1)))
+    eight-exactly = rw (← propose-told w) (λ e. back (walk (envOf w) (assigned w)) refl (sym (ap proposalNumber (demand2 w r u)) ∙ e), λ d. rw (demand2 w r u, dies (d .0) .1 (d .1)))
       where
         back : (o : Out) → walk (envOf w) (assigned w) ≡ o → proposalNumber (told w o (answer w .drops)) ≡ 8 → (clause : ℕ) × Dies w clause
         back Nothing q e = absurd (omega (arith, e))
@@ -104,27 +105,25 @@ module _ (w : List ℕ) (r : ReachedWords w) where
 
     -- "A clause leaves the queue exactly when the walk examines it queued and finds it not open"; and none enters
     pub leaves-exactly : (k : ℕ) → markOf (proposalStore w) k ≡ markOf w k && not (examined w k && notOpen (look (envOf w) (assigned w) k))
-    unfolding proposalStore proposalInStore
+    unfolding proposalInStore
     leaves-exactly k =
         rw (reached-sound w r, u)
         (ap (λ (q : Queue). q .mark k) (answer-along w (reached-genuine w r .sound) .2 .0) ∙ walk-leaves (envOf w) (assigned w) (queueOf w) (reached-holds w r u) k)
 
   -- "touches are the mirror's length plus the trail's, less twice the floor"
   pub touches-are-counted : syncOut w ≡ Touches (at mirrorLength 0 w + at trailLength 0 w - 2 * at syncFloor 0 w)
-  unfolding syncOut
   touches-are-counted =
       let h = reached-genuine w r .sound in
       rw (reached-sound w r, touches-are w h, length-mirror w h, length-trail w)
 
   -- the touched variables, routed one after the other in any order and with any repeats, give the queue that sync leaves
   pub sync-any-order : (touched : List ℕ) → ((v : ℕ) → member v touched ≡ member v (touchedIn w)) → queueOf (syncStore w) ≡ routes (envOf w) (assigned w) touched (queueOf w)
-  unfolding syncStore
   sync-any-order touched same =
       rw (reached-sound w r) (sync-is w (reached-genuine w r .sound) ∙ sym (routes-same touched (touchedIn w) same (envOf w) (assigned w) (queueOf w)))
 
 -- "drops are the queue's size before less after", on any words
 pub drops-are-counted : (w : List ℕ) → queueSize w ≡ queueSize (proposalStore w) + dropsOf (proposalOut w)
-unfolding proposalOut proposalStore proposalIn proposalInStore
+unfolding proposalIn proposalInStore
 drops-are-counted w = go (soundShape w) (unsynced w) refl
   where
     dropped : (o : Out) (d : ℕ) → dropsOf (told w o d) ≡ d
@@ -140,7 +139,7 @@ drops-are-counted w = go (soundShape w) (unsynced w) refl
         omega (arith, left, same, along .1, dropped (answer w .out) (answer w .drops), drops-of (envOf w) (assigned w) (queueOf w))
 
     go : (b c : Bool) → soundShape w ≡ b →
-        queueSize w ≡ queueSize (cond b (cond c w (answer w .left)) w) + dropsOf (cond b (cond c (Refused 7) (told w (answer w .out) (answer w .drops))) (Refused 1))
+        queueSize w ≡ queueSize (cond (not b) w (cond c w (answer w .left))) + dropsOf (cond (not b) (Refused 1) (cond c (Refused 7) (told w (answer w .out) (answer w .drops))))
     go true true e = omega arith
     go true false e = walked (sound-facts w e)
     go false c e = omega arith

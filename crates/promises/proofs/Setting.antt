@@ -1,4 +1,5 @@
 -- THE SETTINGS' CALLS KEEP WORDS GENUINE: each tunes document 01's store. Assumes nothing.
+use mathlib.Core.Bool.{not}
 use mathlib.Core.List.{List}
 use mathlib.Core.Path.{_≡_, refl, sym, subst}
 use Prim.Native.Nat.{ℕ}
@@ -41,16 +42,12 @@ module _ (s w : List ℕ) (out : (a : Area) → T (apart a settingsRegion) → a
 -- THE THREE CALLS
 module _ (w : List ℕ) (g : Genuine w) where
   pub mark-hot-genuine : (name : ℕ) → Genuine (hotStore w name)
-  unfolding hotStore
-  mark-hot-genuine name = cond-either Genuine (soundShape w) (hotInStore w name) w (λ e. tuned-genuine (hotInStore w name) w (λ a t. hot-outside w a t name) (hot-sound w (g .sound) name) g) (λ e. g)
+  mark-hot-genuine name = cond-either Genuine (not (soundShape w)) w (hotInStore w name) (λ e. g) (λ e. tuned-genuine (hotInStore w name) w (λ a t. hot-outside w a t name) (hot-sound w (g .sound) name) g)
 
   -- a float parameter always fits its format
   pub set-activity-genuine : (name : ℕ) (x : Float) → T (fits binary32 x) → Genuine (activityStore w name x)
-  unfolding activityStore
   set-activity-genuine name x f =
-      cond-either Genuine (soundShape w) (activityInStore w name x) w
-      (λ e. tuned-genuine (activityInStore w name x) w (λ a t. activity-outside w a t name x f) (activity-sound w (g .sound) name x f) g) (λ e. g)
+      cond-either Genuine (not (soundShape w)) w (activityInStore w name x) (λ e. g) (λ e. tuned-genuine (activityInStore w name x) w (λ a t. activity-outside w a t name x f) (activity-sound w (g .sound) name x f) g)
 
   pub set-mode-genuine : (m : ℕ) → Genuine (modeStore w m)
-  unfolding modeStore
-  set-mode-genuine m = cond-either Genuine (soundShape w) (modeInStore w m) w (λ e. tuned-genuine (modeInStore w m) w (λ a t. mode-outside w a t m) (mode-sound w (g .sound) m) g) (λ e. g)
+  set-mode-genuine m = cond-either Genuine (not (soundShape w)) w (modeInStore w m) (λ e. g) (λ e. tuned-genuine (modeInStore w m) w (λ a t. mode-outside w a t m) (mode-sound w (g .sound) m) g)

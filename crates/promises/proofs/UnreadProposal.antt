@@ -1,4 +1,5 @@
 -- THE PROPOSAL ASKS THE STATED WORDS ALONE: two slices that agree on them are walked alike, step by step, and left alike there. Assumes nothing.
+use mathlib.Core.Bool.{not}
 use mathlib.Core.List.{List}
 use mathlib.Core.Path.{_≡_, refl, ap, subst}
 use Prim.Native.Nat.{ℕ}
@@ -6,8 +7,9 @@ use Rattle.evaluate.proofs.Frames.{assigned-same, cache-same, cachesRegion, cla
 use Rattle.evaluate.specs.Standing.{cacheOf, envOf, markOf, ofClause, queueOf}
 use Rattle.evaluate.specs.View.{assigned, listsAt}
 use Rattle.examine.specs.Cache.{cacheWrites, cached, clauseKey, filled, refreshed, saved, seenAt, wordOperations}
+use Rattle.imbolaverk.specs.Calls.{numberOf, propose, valuesOf}
 use Rattle.promises.proofs.UnreadWords.{Alike, area-alike, at-alike, either-alike, put-alike, puts-alike, sound-alike}
-use Rattle.proposal.specs.Propose.{answer, proposalIn, proposalInStore, proposalOut, proposalStore, told, unsynced}
+use Rattle.proposal.specs.Propose.{answer, proposalIn, proposalInStore, proposalStore, told, unsynced}
 use Rattle.rules.proofs.Following.{Follows, both-walk}
 use Rattle.rules.specs.Walk.{Environment, active, evaluate}
 use Rattle.rules.specs.Queue.{Answer, queuedWalk}
@@ -108,12 +110,11 @@ module _ (w u : List ℕ) (e : Alike w u) where
       rw (walk-alike .0, walk-alike .1)
       (told-alike w u (answer u .out) (answer u .drops) (ap (λ (v : Environment). v .parent) (env-alike w u e)) (ap (λ (v : Environment). v .clauseId) (env-alike w u e)))
 
-  pub proposal-answers : proposalOut w ≡ proposalOut u
-  unfolding proposalOut
-  proposal-answers = simp (sound-alike w u e, unsynced-alike, told-so)
+  pub proposal-answers : (numberOf w propose ≡ numberOf u propose) × (valuesOf w propose ≡ valuesOf u propose)
+  proposal-answers = (simp (sound-alike w u e, unsynced-alike, told-so), simp (sound-alike w u e, unsynced-alike, told-so))
 
   pub proposal-left : Alike (proposalStore w) (proposalStore u)
-  unfolding proposalStore proposalInStore
+  unfolding proposalInStore
   proposal-left =
       rw (sound-alike w u e, unsynced-alike)
-      (either-alike (soundShape u) _ _ w u (either-alike (unsynced u) w u _ _ e (walk-alike .2)) e)
+      (either-alike (not (soundShape u)) w u _ _ e (either-alike (unsynced u) w u _ _ e (walk-alike .2)))

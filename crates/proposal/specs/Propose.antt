@@ -1,5 +1,5 @@
 -- The proposal at the words: the walk over the queued clauses, its answer as document 01 gives it, and the words that it leaves.
-use mathlib.Core.Bool.{Bool, cond, _||_}
+use mathlib.Core.Bool.{Bool, true, false, cond, _||_}
 use mathlib.Core.List.{List, [], _∷_, foldl}
 use mathlib.Core.Path.{_≡_}
 use Prim.Native.Nat.{ℕ, _-_}
@@ -13,8 +13,8 @@ use Rattle.rules.specs.Queue.{Answer, queuedTurn, queuedWalk}
 use Rattle.rules.specs.Walk.{Environment}
 use Rattle.store.specs.Area.{at}
 use Rattle.store.specs.Layout.{clauseCount, clauseIds, clauseParents, mirrorLength, syncFloor, trailLength}
-use Rattle.store.specs.Refusals.{badStore, deadClause, notSynced}
-use Rattle.store.specs.Shape.{soundShape}
+use Rattle.store.specs.Refusals.{deadClause, notSynced}
+use Rattle.store.specs.Row.{Row, Test, _if_, answerIn, answerOn, leftIn, leftOn}
 use Rattle.rules.specs.declared.Best.{Best}
 use Rattle.rules.specs.declared.Out.{Out}
 use Rattle.rules.specs.declared.Out.the-variants.{Nothing, Dead as DeadClause, Choose}
@@ -73,13 +73,23 @@ proposalInStore w = answer w .left
 unfoldable pub unsynced : List ℕ → Bool
 unsynced w = ltb (at syncFloor 0 w) (at mirrorLength 0 w) || ltb (at mirrorLength 0 w) (at trailLength 0 w)
 
--- on any words; 7: "a proposal is asked of an unsynced store"
-unfoldable pub proposalOut : List ℕ → Proposal
-proposalOut w = cond (soundShape w) (cond (unsynced w) (Refused notSynced) (proposalIn w)) (Refused badStore)
+-- the call; 7: "a proposal is asked of an unsynced store"
+abbrev pub proposalRow : List ℕ → Row Proposal
+proposalRow w = record { refused = Refused; tests = notSynced if unsynced w ∷ []; answer = proposalIn w; left = proposalInStore w }
 
--- the words left, on any words
-unfoldable pub proposalStore : List ℕ → List ℕ
-proposalStore w = cond (soundShape w) (cond (unsynced w) w (proposalInStore w)) w
+-- on any words
+abbrev pub proposalOut : List ℕ → Proposal
+proposalOut w = answerOn w (proposalRow w)
+
+abbrev pub proposalStore : List ℕ → List ℕ
+proposalStore w = leftOn w (proposalRow w)
+
+-- whether the walk ended at a dead clause
+abbrev pub isDead : Proposal → Bool
+isDead (DeadAt clause dropped) = true
+isDead (Chosen candidate parent clause activity count dropped) = false
+isDead (NoneOpen dropped) = false
+isDead (Refused n) = false
 
 -- the answer's number in document 01; a dead clause is 8
 abbrev pub proposalNumber : Proposal → ℕ
