@@ -6,7 +6,7 @@ use native.Mathlib.Omega.{arith}
 use lib.Dec.{T}
 use lib.ListN.{length}
 use Rattle.store.proofs.AreaLaws.{length-put, area-kept, at-kept}
-use Rattle.store.proofs.Choice.{both, is-true}
+use Rattle.rules.proofs.Choice.{both, is-true}
 use Rattle.store.proofs.RankLaws.{length-inserted, area-inserted-kept}
 use Rattle.store.proofs.Soundness.{ranged-beside, tabled-same, untied, sound-put}
 use Rattle.store.specs.Area.{Area, area, at, put, Write, apart, clearOf, _upto_}

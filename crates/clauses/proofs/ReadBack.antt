@@ -11,7 +11,7 @@ use Rattle.clauses.proofs.Kept.{rows, sums, sums-inside, registered-row
 use Rattle.clauses.specs.Record.{clauseAt, rankOf}
 use Rattle.clauses.specs.Register.{conditionWord, Placed, queuedMark, clauseOf, registered}
 use Rattle.store.proofs.AreaLaws.{area-puts, at-written}
-use Rattle.store.proofs.Choice.{both, is-true, eq-or, lt-or}
+use Rattle.rules.proofs.Choice.{both, is-true, eq-or, lt-or}
 use Rattle.store.proofs.RankLaws.{length-inserted, area-inserted-kept, at-inserted-before, at-inserted, at-inserted-behind}
 use Rattle.store.specs.Area.{Area, area, at, Write, write, Fits, apart, clearOf}
 use Rattle.store.specs.Layout.{queued, clauseCount, clauseParents, clauseRequirements, clauseConditions, clauseIds, words}

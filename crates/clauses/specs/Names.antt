@@ -4,7 +4,7 @@ use mathlib.Core.List.{List}
 use Prim.Native.Nat.{ℕ, zero, suc, _+_}
 use lib.Dec.{eqb}
 use Rattle.requirement.specs.Tables.{firstSlot, setCount, setOf, nameOf}
-use Rattle.store.specs.Numbers.{allFrom}
+use Rattle.rules.specs.Numbers.{allFrom}
 
 -- list j of those that begin at `first` has another name than list i
 unfoldable pub otherName : List ℕ → ℕ → ℕ → ℕ → Bool

@@ -1,8 +1,9 @@
 -- The clause records, kept in position order: clause k is the k-th of the walk.
 use mathlib.Core.Bool.{cond}
 use mathlib.Core.List.{List}
-use Prim.Native.Nat.{ℕ, zero, suc, _-_}
-use lib.Dec.{ltb, eqb}
+use Prim.Native.Nat.{ℕ, _-_}
+use lib.Dec.{ltb}
+use Rattle.rules.specs.Store.{rank}
 use Rattle.store.specs.Area.{at}
 use Rattle.store.specs.Layout.{clauseCount, clauseParents, clauseRequirements, clauseConditions, clauseIds}
 use Rattle.store.specs.Limits.{versionSets}
@@ -24,12 +25,10 @@ clauseAt w k =
       id = at clauseIds k w;
     }
 
--- "A clause's position is its parent's number and then its own number under that parent; parents are numbered by their first
--- registration": of n clauses look at the first k; behind the last of them that has the parent, or, where none has, behind all n
-unfoldable pub behindLast : List ℕ → ℕ → ℕ → ℕ → ℕ
-behindLast w parent n zero = n
-behindLast w parent n (suc k) = cond (eqb (at clauseParents k w) parent) (suc k) (behindLast w parent n k)
+-- the parent of clause k
+abbrev pub parentAt : List ℕ → ℕ → ℕ
+parentAt w k = at clauseParents k w
 
--- the rank of a new clause of a parent
+-- the rank of a new clause: behind the last clause of its parent, or behind all
 abbrev pub rankOf : List ℕ → ℕ → ℕ
-rankOf w parent = behindLast w parent (at clauseCount 0 w) (at clauseCount 0 w)
+rankOf w parent = rank (parentAt w) parent (at clauseCount 0 w)

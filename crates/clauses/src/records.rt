@@ -5,7 +5,8 @@ ghost use lib.ListN.{length};
 ghost use Rattle.store.specs.Layout.{words};
 ghost use Rattle.store.specs.Limits.{clauses};
 ghost use Rattle.store.specs.Shape.{Sound};
-ghost use Rattle.clauses.specs.Record.{ofKey, clauseAt, behindLast};
+ghost use Rattle.clauses.specs.Record.{ofKey, clauseAt, parentAt};
+ghost use Rattle.rules.specs.Store.{rank};
 use crate::Clause;
 use requirement::Requirement;
 use store::limits;
@@ -38,7 +39,7 @@ pub fn clause_at(s: &[u32], k: usize) -> Clause
 // The rank of a new clause among n: behind the last clause of its parent, or behind all.
 pub fn rank_of(s: &[u32], parent: u32, n: usize) -> usize
     requires { ⌜ (words ≤ length (now s)) × (n ≤ clauses) ⌝ }
-    ensures { λ r. ⌜ r ≡ behindLast (now (s .entry)) parent n n ⌝ }
+    ensures { λ r. ⌜ r ≡ rank (parentAt (now (s .entry))) parent n ⌝ }
 {
     let mut k = n;
     while 0 < k {

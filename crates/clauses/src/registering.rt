@@ -24,7 +24,7 @@ use store::refusals;
 use store::wide;
 use store::write;
 use tables::disjunction;
-use trail::decision_map;
+use trail::assignment;
 
 // Whether no list before list i of those that begin at `first` has its name.
 fn new_name(s: &[u32], first: usize, i: usize) -> bool
@@ -156,10 +156,10 @@ fn register_case(s: &[u32], parent: u32, kind: u32, requirement: u32, condition:
 
 // The mark of a new clause: it is queued exactly if its parent is true now.
 fn mark_of(s: &[u32], parent: u32) -> u32
-    requires { ⌜ (words ≤ length (now s)) × (parent < variables) ⌝ }
+    requires { ⌜ (Sound (now s)) × (parent < variables) ⌝ }
     ensures { λ r. ⌜ r ≡ queuedMark (now (s .entry)) parent ⌝ }
 {
-    if decision_map::side(read::cell(s, wide(parent))) == codes::TRUE {
+    if assignment::is_true(s, parent) {
         return 1;
     }
     0

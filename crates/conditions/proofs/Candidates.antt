@@ -6,21 +6,19 @@ use Prim.Native.Nat.{ℕ, _+_, _-_, _≤_, _<_}
 use native.Mathlib.Nat.{zero-add}
 use native.Mathlib.Numerals.{add-one}
 use native.Mathlib.Omega.{arith}
-use borrow.Author.Tests.{leb-true, eqb-true, le-leb, lt-leb, eq-eqb, ne-eqb}
+use borrow.Author.Tests.{leb-true, eqb-true, le-leb, lt-leb}
 use lib.Dec.{leb, eqb}
 use lib.ListN.{length, getD, take, drop, drop-of-length-le}
 use lib.Seq.{drop-cons}
-use Rattle.conditions.specs.Disjunct.{lastKind, conjunct, sane, saneAt, isTrue, holdsAt, saneAll}
+use Rattle.conditions.specs.Disjunct.{lastKind, conjunct, sane, saneAt, holdsAt, saneAll}
 use Rattle.conditions.specs.Truth.{some}
-use Rattle.store.proofs.Choice.{both}
+use Rattle.rules.proofs.Choice.{both}
 use Rattle.store.proofs.Counting.{every-at}
-use Rattle.store.proofs.Loops.{all-at}
-use Rattle.store.specs.Area.{at}
-use Rattle.store.specs.Layout.{map}
+use Rattle.rules.proofs.Loops.{all-at}
 use Rattle.store.specs.Limits.{lastVariable}
-use Rattle.store.specs.Numbers.{allFrom}
+use Rattle.rules.specs.Numbers.{allFrom}
 use Rattle.store.specs.Shape.{every, upTo}
-use Rattle.trail.specs.Cell.{cellSide}
+use Rattle.trail.specs.Assignment.{assignedTrue}
 
 -- looking for an element that passes: what is left of the search is the whole search
 module _ (p : ℕ → Bool) (l : List ℕ) (i : ℕ) (so : some p l ≡ some p (drop i l)) where
@@ -37,16 +35,6 @@ module _ (p : ℕ → Bool) (l : List ℕ) (i : ℕ) (so : some p l ≡ some p (
   pub some-ends : length l ≤ i → false ≡ some p l
   unfolding some
   some-ends h = sym (so ∙ rw (drop-of-length-le l {i = i} h))
-
--- a candidate's value, as the code reads it
-module _ (w : List ℕ) (x y : ℕ) (is : y ≡ cellSide (at map x w)) where
-  pub true-at : y ≡ 1 → isTrue w x ≡ true
-  unfolding isTrue
-  true-at e = rw (← is) (eq-eqb y 1 e)
-
-  pub untrue-at : (y ≡ 1 → ⊥) → isTrue w x ≡ false
-  unfolding isTrue
-  untrue-at e = rw (← is) (ne-eqb y 1 e)
 
 pub variable-at : (l : List ℕ) (i : ℕ) → every (upTo lastVariable) l ≡ true → i < length l → getD l i 0 ≤ lastVariable
 variable-at l i e h = leb-true (getD l i 0) lastVariable (every-at (upTo lastVariable) l e i h)
@@ -108,6 +96,6 @@ module _ {starts lengths cells : List ℕ} {j a b : ℕ} (here : Conjunct starts
   pub part-named : every (upTo lastVariable) (take (a + b - a) (drop a cells)) ≡ true
   part-named = ap (every (upTo lastVariable)) lent-is ∙ here .named
 
-  pub part-holds : (w : List ℕ) (r t : Bool) → r ≡ some (isTrue w) (take (a + b - a) (drop a cells)) → r ≡ t → holdsAt w starts lengths cells j ≡ t
+  pub part-holds : (w : List ℕ) (r t : Bool) → r ≡ some (assignedTrue w) (take (a + b - a) (drop a cells)) → r ≡ t → holdsAt w starts lengths cells j ≡ t
   unfolding holdsAt
-  part-holds w r t q z = ap (some (isTrue w)) (sym lent-is) ∙ sym q ∙ z
+  part-holds w r t q z = ap (some (assignedTrue w)) (sym lent-is) ∙ sym q ∙ z

@@ -6,7 +6,7 @@ use Prim.Native.Nat.{ℕ, zero, suc, _+_}
 use lib.Dec.{eqb}
 use Rattle.conditions.specs.Dnf.{behind, cross, nodeTerms, dnf, linked, terms}
 use Rattle.conditions.specs.Truth.{some, nodeTruth, truth, treeHolds, termsHold}
-use Rattle.store.proofs.Choice.{or-assoc, and-none}
+use Rattle.rules.proofs.Choice.{or-assoc, and-none}
 use Rattle.store.specs.Area.{at}
 use Rattle.store.specs.Codes.{leafKind, andKind}
 use Rattle.store.specs.Layout.{nodeKinds, nodeSets, nodeLefts, nodeRights}

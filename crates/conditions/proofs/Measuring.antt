@@ -15,8 +15,8 @@ use Rattle.conditions.specs.Dnf.{termOf}
 use Rattle.conditions.specs.Steps.{shortAt, cellsTo}
 use Rattle.conditions.specs.Ways.{Asked, AllAsked, Good}
 use Rattle.conditions.specs.declared.Way.the-variants.{Two}
-use Rattle.store.proofs.Loops.{all-at}
-use Rattle.store.specs.Numbers.{allFrom}
+use Rattle.rules.proofs.Loops.{all-at}
+use Rattle.rules.specs.Numbers.{allFrom}
 
 -- a term that is two parts
 module _ (w : List ℕ) (c i d m e n : ℕ) (two : Good w c i (Two d m e n)) where

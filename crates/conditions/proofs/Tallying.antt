@@ -11,7 +11,7 @@ use Rattle.store.specs.Limits.{mostTerms}
 use Rattle.conditions.proofs.Terms.{min-most, count-node, linked-at}
 use Rattle.conditions.specs.Dnf.{dnf, linked}
 use Rattle.conditions.specs.Ways.{countOf}
-use Rattle.store.proofs.Choice.{eq-or}
+use Rattle.rules.proofs.Choice.{eq-or}
 use Rattle.store.specs.Area.{at}
 use Rattle.store.specs.Layout.{nodeKinds, nodeSets, nodeLefts, nodeRights}
 use Rattle.store.specs.Shape.{Sound}

@@ -12,7 +12,7 @@ use lib.Seq.{getD-append-add}
 use Rattle.store.specs.Limits.{mostTerms}
 use Rattle.conditions.specs.Dnf.{behind, cross, nodeTerms, dnf, linked}
 use Rattle.conditions.specs.Ways.{countOf}
-use Rattle.store.proofs.Choice.{lt-or}
+use Rattle.rules.proofs.Choice.{lt-or}
 use Rattle.store.specs.Area.{at}
 use Rattle.store.specs.Codes.{leafKind, andKind}
 use Rattle.store.specs.Layout.{nodeKinds, nodeSets, nodeLefts, nodeRights}

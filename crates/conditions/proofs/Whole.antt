@@ -14,7 +14,7 @@ use Rattle.store.specs.Limits.{mostSets}
 use Rattle.conditions.proofs.Writing.{sets-append}
 use Rattle.conditions.specs.Dnf.{linked, termOf}
 use Rattle.conditions.specs.Steps.{shortAt, cellsTo, lengthsLeft, cellsLeft}
-use Rattle.store.specs.Numbers.{allFrom}
+use Rattle.rules.specs.Numbers.{allFrom}
 use Rattle.store.specs.Shape.{every, upTo}
 
 lengths-snoc : (ts : List (List ℕ)) (t : List ℕ) → lengthsOf (ts ++ (t ∷ [])) ≡ lengthsOf ts ++ (length t ∷ [])

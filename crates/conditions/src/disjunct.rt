@@ -5,18 +5,17 @@ ghost use mathlib.Core.Bool.{true};
 ghost use Prim.Native.Nat.{_<_};
 ghost use lib.ListN.{length};
 ghost use Rattle.store.specs.Limits.{lastVariable};
-ghost use Rattle.store.specs.Numbers.{allFrom};
+ghost use Rattle.rules.specs.Numbers.{allFrom};
 ghost use Rattle.store.specs.Shape.{Sound, every, upTo};
 ghost use Rattle.conditions.specs.Truth.{some};
-ghost use Rattle.conditions.specs.Disjunct.{sane, saneAt, saneAll, isTrue, holdsAt, disjunctIn};
+ghost use Rattle.conditions.specs.Disjunct.{sane, saneAt, saneAll, holdsAt, disjunctIn};
+ghost use Rattle.trail.specs.Assignment.{assignedTrue};
 use crate::Holds;
-use store::codes;
 use store::lent;
 use store::limits;
-use store::read;
 use store::refusals;
 use store::wide;
-use trail::decision_map;
+use trail::assignment;
 
 // The largest kind of a conjunct: 0 solvables (some candidates of a name match), 1 empty (all match: the complement is empty).
 const LAST_KIND: usize = 1;
@@ -25,11 +24,11 @@ const LAST_KIND: usize = 1;
 fn some_true(s: &[u32], list: &[u32]) -> bool
     requires { ⌜ Sound (now s) ⌝ }
     requires { ⌜ every (upTo lastVariable) (now list) ≡ true ⌝ }
-    ensures { λ r. ⌜ r ≡ some (isTrue (now (s .entry))) (now (list .entry)) ⌝ }
+    ensures { λ r. ⌜ r ≡ some (assignedTrue (now (s .entry))) (now (list .entry)) ⌝ }
 {
     let mut i: usize = 0;
     while i < list.len() {
-        if decision_map::side(read::cell(s, wide(list[i]))) == codes::TRUE {
+        if assignment::is_true(s, list[i]) {
             return true;
         }
         i += 1;

@@ -6,7 +6,7 @@ ghost use mathlib.Core.Bool.{true};
 ghost use Prim.Native.Nat.{_+_, _*_, _≤_, _<_, min};
 ghost use lib.ListN.{length};
 ghost use lib.Seq.{sets};
-ghost use Rattle.store.specs.Numbers.{allFrom};
+ghost use Rattle.rules.specs.Numbers.{allFrom};
 ghost use Rattle.store.specs.Limits.{mostTerms, mostSets};
 ghost use Rattle.store.specs.Shape.{Sound};
 ghost use Rattle.conditions.specs.Dnf.{termOf};

@@ -141,7 +141,7 @@ fn load_candidates(words: &mut [u32]) {
 
 // A clause of the root that needs version set 0, on no condition.
 fn register(words: &mut [u32; limits::WORD_ROOM]) -> Registered {
-    clauses::register(words, codes::ROOT, 0, 0, codes::NO_CONDITION, 10)
+    clauses::register(words, rules::ROOT, 0, 0, codes::NO_CONDITION, 10)
 }
 
 fn register_many(words: &mut [u32; limits::WORD_ROOM], n: usize) {

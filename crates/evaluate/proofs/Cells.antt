@@ -7,16 +7,17 @@ use native.Mathlib.Numerals.{add-one}
 use native.Mathlib.Omega.{arith}
 use lib.ListN.{length, drop, length-take, length-drop, drop-of-length-le}
 use lib.Seq.{drop-cons, getD-take, getD-drop}
-use Rattle.evaluate.specs.View.{assigned, run}
+use Rattle.evaluate.specs.View.{run}
 use Rattle.rules.specs.Walk.{isTrue, isUndecided, firstTrue, firstUndecided, countUndecided}
 use Rattle.store.proofs.AreaLaws.{length-area}
 use Rattle.store.specs.Area.{area, at}
 use Rattle.store.specs.Layout.{candidates}
 use Rattle.store.specs.Limits.{cellRoom}
 use Rattle.store.specs.Shape.{Sound}
-use Rattle.trail.specs.declared.Value.{Value}
+use Rattle.rules.specs.declared.Value.{Value}
 use Rattle.rules.specs.declared.Found.{Found}
 use Rattle.rules.specs.declared.Found.the-variants.{At, Nowhere}
+use Rattle.trail.specs.Assignment.{assigned}
 
 -- the first that passes a test
 unfoldable pub firstThat : (ℕ → Bool) → List ℕ → Found

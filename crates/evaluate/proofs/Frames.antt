@@ -7,13 +7,14 @@ use Prim.Native.Nat.{ℕ, _-_}
 use lib.Dec.{T, eqb}
 use Rattle.evaluate.proofs.Froms.{from-same}
 use Rattle.evaluate.specs.Standing.{entryAt, envOf, markOf, cacheOf, mirrorOf, ofClause, queueOf, storeOf, trailOf}
-use Rattle.evaluate.specs.View.{assigned, listAt, listsAt, literalAt, literalsAt}
+use Rattle.evaluate.specs.View.{listAt, listsAt, literalAt, literalsAt}
 use Rattle.requirement.specs.Tables.{cellsOf, firstSlot, listCount, setCount, setOf}
 use Rattle.rules.specs.Store.{tuned}
 use Rattle.store.proofs.AreaLaws.{area-same, at-same, within}
 use Rattle.store.specs.Area.{Area, area, at}
 use Rattle.store.specs.Layout.{activities, cacheCandidates, cacheCounts, cacheNames, cacheStates, candidates, clauseConditions, clauseCount, clauseIds, clauseParents, clauseRequirements, clausesRegion, disjunctionSizes, disjunctionStarts, environmentRegion, hotNames, listLengths, listStarts, literalSigns, literalVariables, map, mirror, mirrorLength, mirrorRegion, mode, queueRegion, queued, region, setNames, tablesLoaded, tablesRegion, trailLength, trailRegion, trailValues, trailVariables, unionSets, unionSizes}
 use Rattle.store.specs.Limits.{names, versionSets}
+use Rattle.trail.specs.Assignment.{assigned}
 
 -- the lists and the literals, by the tables alone
 module _ (s w : List ℕ) (e : area tablesRegion s ≡ area tablesRegion w) where

@@ -6,11 +6,12 @@ use mathlib.Core.Path.{_≡_, sym, _∙_}
 use Prim.Native.Nat.{ℕ, _+_, _-_, _≤_, _<_}
 use borrow.Author.Tests.{eq-eqb, ne-eqb}
 use Rattle.evaluate.proofs.Turns.{from-next, from-done}
-use Rattle.evaluate.specs.View.{from, literalAt, literalsAt}
+use Rattle.evaluate.specs.View.{literalAt, literalsAt}
 use Rattle.rules.specs.Walk.{isTrue, isFalse, literalFalse, allFalse}
 use Rattle.store.specs.Area.{at}
 use Rattle.store.specs.Layout.{disjunctionStarts, disjunctionSizes, literalVariables, literalSigns}
-use Rattle.trail.specs.declared.Value.{Value}
+use Rattle.rules.specs.declared.Value.{Value}
+use Rattle.rules.specs.Numbers.{from}
 
 -- a negated literal turns its variable's value round
 module _ (a : ℕ → Value) (w : List ℕ) (i v g : ℕ) (p : v ≡ at literalVariables i w) (q : g ≡ at literalSigns i w) where

@@ -7,15 +7,15 @@ use Prim.Native.Nat.{ℕ, _+_, _-_, _*_, _≤_, _<_}
 use native.Mathlib.Omega.{arith}
 use borrow.Author.Tests.{ltb-true, ltb-false}
 use lib.Dec.{ltb}
-use Rattle.evaluate.specs.View.{from}
 use Rattle.requirement.proofs.Copying.{count-most}
 use Rattle.requirement.proofs.Spans.{lies-facts, single-lies, union-lies}
 use Rattle.requirement.specs.Tables.{firstSlot, listCount}
-use Rattle.store.proofs.Choice.{eq-or, lt-or}
+use Rattle.rules.proofs.Choice.{eq-or, lt-or}
 use Rattle.store.specs.Area.{at}
 use Rattle.store.specs.Layout.{listStarts, listLengths, singleCells, candidates, disjunctionStarts, disjunctionSizes, literalVariables}
 use Rattle.store.specs.Limits.{variables, versionSets, unionRoom, cellRoom, disjunctions, literalRoom, requirements, lists, lastVariable, mostDisjunctionSize}
 use Rattle.store.specs.Shape.{lies, unionsFrom, Sound}
+use Rattle.rules.specs.Numbers.{from}
 
 -- a cell names a variable
 pub cell-variable : (w : List ℕ) (i x : ℕ) → Sound w → x ≡ at candidates i w → x < variables

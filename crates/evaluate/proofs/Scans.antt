@@ -4,16 +4,18 @@ use mathlib.Core.List.{List, [], _∷_, _++_}
 use mathlib.Core.Path.{_≡_, refl, sym, _∙_}
 use Prim.Native.Nat.{ℕ, _+_, _-_, _≤_, _<_}
 use Rattle.evaluate.proofs.Turns.{from-next, from-done}
-use Rattle.evaluate.specs.View.{run, from, listAt, listsAt}
+use Rattle.evaluate.specs.View.{run, listAt, listsAt}
 use Rattle.requirement.specs.Tables.{firstSlot, listCount, setOf, nameOf, cellsOf}
 use Rattle.rules.specs.Walk.{isTrue, CandidateList, flattened, firstTrue, firstUndecided, countUndecided, orNext, frontier, evaluate}
 use Rattle.store.specs.Area.{at}
 use Rattle.store.specs.Layout.{listStarts, listLengths, candidates}
-use Rattle.trail.specs.declared.Value.{Value}
+use Rattle.rules.specs.declared.Value.{Value}
 use Rattle.rules.specs.declared.Found.{Found}
 use Rattle.rules.specs.declared.Found.the-variants.{At, Nowhere}
 use Rattle.rules.specs.declared.State.{State}
-use Rattle.rules.specs.declared.State.the-variants.{Satisfied, Frontier, Dead}
+use Rattle.rules.specs.declared.State.the-variants.{Satisfied, Frontier}
+use Rattle.rules.specs.Numbers.{from}
+use Rattle.rules.specs.declared.State.the-variants as state
 
 -- the cells of a list are those that were read
 pub cells-run : (w : List ℕ) (slot place n : ℕ) → place ≡ at listStarts slot w → n ≡ at listLengths slot w → run w place n ≡ cellsOf w slot
@@ -26,7 +28,7 @@ module _ (a : ℕ → Value) (w : List ℕ) (slot place n : ℕ) (p : place ≡ 
   unfolding frontier listAt
   list-first x name count e f g = rw (f, g, ← cells-run w slot place n p q, e)
 
-  pub list-dead : firstUndecided a (run w place n) ≡ Nowhere → Dead ≡ frontier a (listAt w slot ∷ [])
+  pub list-dead : firstUndecided a (run w place n) ≡ Nowhere → state.Dead ≡ frontier a (listAt w slot ∷ [])
   unfolding frontier listAt
   list-dead e = rw (← cells-run w slot place n p q, e)
 
@@ -51,11 +53,11 @@ module _ (a : ℕ → Value) where
       go false q ih = ih q
 
 -- a frontier is that of the first list which has one
-frontier-here : (f : Found) (n m : ℕ) (t u : State) → orNext f n m Dead ≡ t → (t ≡ Dead → ⊥) → orNext f n m u ≡ t
+frontier-here : (f : Found) (n m : ℕ) (t u : State) → orNext f n m state.Dead ≡ t → (t ≡ state.Dead → ⊥) → orNext f n m u ≡ t
 frontier-here (At x) n m t u e h = e
 frontier-here Nowhere n m t u e h = absurd (h (sym e))
 
-frontier-later : (f : Found) (n m : ℕ) (u : State) → orNext f n m Dead ≡ Dead → orNext f n m u ≡ u
+frontier-later : (f : Found) (n m : ℕ) (u : State) → orNext f n m state.Dead ≡ state.Dead → orNext f n m u ≡ u
 frontier-later (At x) n m u e = cc
 frontier-later Nowhere n m u e = refl
 
@@ -78,15 +80,15 @@ module _ (a : ℕ → Value) (w : List ℕ) (t n i : ℕ) where
     lists-none h = sym (so ∙ rw (from-done (listAt w) t n i h))
 
   module _ (so : frontier a (from (listAt w) t n) ≡ frontier a (from (listAt w) (t + i) (n - i))) where
-    pub frontier-hit : (g : State) → i < n → frontier a (listAt w (t + i) ∷ []) ≡ g → (g ≡ Dead → ⊥) → g ≡ frontier a (from (listAt w) t n)
+    pub frontier-hit : (g : State) → i < n → frontier a (listAt w (t + i) ∷ []) ≡ g → (g ≡ state.Dead → ⊥) → g ≡ frontier a (from (listAt w) t n)
     unfolding frontier
     frontier-hit g h q z = sym (so ∙ rw (from-next (listAt w) t n i h) (frontier-here (firstUndecided a (listAt w (t + i) .candidates)) (listAt w (t + i) .name) (countUndecided a (listAt w (t + i) .candidates)) g (frontier a left) q z))
 
-    pub frontier-next : i < n → frontier a (listAt w (t + i) ∷ []) ≡ Dead → frontier a (from (listAt w) t n) ≡ frontier a left
+    pub frontier-next : i < n → frontier a (listAt w (t + i) ∷ []) ≡ state.Dead → frontier a (from (listAt w) t n) ≡ frontier a left
     unfolding frontier
     frontier-next h q = so ∙ rw (from-next (listAt w) t n i h) (frontier-later (firstUndecided a (listAt w (t + i) .candidates)) (listAt w (t + i) .name) (countUndecided a (listAt w (t + i) .candidates)) (frontier a left) q)
 
-    pub frontier-none : n ≤ i → Dead ≡ frontier a (from (listAt w) t n)
+    pub frontier-none : n ≤ i → state.Dead ≡ frontier a (from (listAt w) t n)
     unfolding frontier
     frontier-none h = sym (so ∙ rw (from-done (listAt w) t n i h))
 

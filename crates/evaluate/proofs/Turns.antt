@@ -4,7 +4,7 @@ use mathlib.Core.Path.{_≡_}
 use Prim.Native.Nat.{ℕ, suc, _+_, _-_, _≤_, _<_}
 use native.Mathlib.Nat.{add-zero}
 use native.Mathlib.Omega.{arith}
-use Rattle.evaluate.specs.View.{from}
+use Rattle.rules.specs.Numbers.{from}
 
 module _ {A : Type 0} (f : ℕ → A) (t n : ℕ) where
   pub from-begin : from f t n ≡ from f (t + 0) (n - 0)

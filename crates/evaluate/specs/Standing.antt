@@ -4,7 +4,7 @@ use mathlib.Core.List.{List}
 use Prim.Native.Nat.{ℕ}
 use lib.Dec.{ltb, eqb}
 use lib.ListN.{take}
-use Rattle.evaluate.specs.View.{from, listsAt, literalsAt}
+use Rattle.evaluate.specs.View.{listsAt, literalsAt}
 use Rattle.rules.specs.Queue.{Queue}
 use Rattle.rules.specs.Store.{Store}
 use Rattle.rules.specs.Sync.{Entry}
@@ -16,6 +16,7 @@ use Rattle.store.specs.Area.{Area, area, at}
 use Rattle.store.specs.Codes.{dirty, satisfied, standardMode}
 use Rattle.store.specs.Layout.{queued, cacheStates, cacheCandidates, cacheNames, cacheCounts, mirror, mirrorLength, syncFloor, trailLength, trailVariables, trailValues, mode, activities, hotNames, clauseCount, clauseParents, clauseRequirements, clauseConditions, clauseIds}
 use Rattle.store.specs.Limits.{names}
+use Rattle.rules.specs.Numbers.{from}
 
 -- word k of an area that has a word for each clause: 0 where there are not so many clauses
 unfoldable pub ofClause : Area → List ℕ → ℕ → ℕ

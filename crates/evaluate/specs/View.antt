@@ -9,7 +9,7 @@ use Rattle.rules.specs.Walk.{Literal, CandidateList}
 use Rattle.store.specs.Area.{area, at}
 use Rattle.store.specs.Layout.{map, candidates, disjunctionStarts, disjunctionSizes, literalVariables, literalSigns}
 use Rattle.trail.specs.Cell.{cellValue}
-use Rattle.trail.specs.declared.Value.{Value}
+use Rattle.rules.specs.declared.Value.{Value}
 
 -- the assignment that the map holds
 unfoldable pub assigned : List ℕ → ℕ → Value

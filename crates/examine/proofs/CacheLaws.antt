@@ -17,7 +17,8 @@ use Rattle.store.specs.Layout.{cacheCandidates, cacheCounts, cacheNames, cacheS
 use Rattle.store.specs.Limits.{cellRoom, lastName, lastVariable, requirements}
 use Rattle.store.specs.Shape.{Sound}
 use Rattle.rules.specs.declared.Cache.the-variants.{Dirty, Known}
-use Rattle.rules.specs.declared.State.the-variants.{Satisfied, Frontier, Dead}
+use Rattle.rules.specs.declared.State.the-variants.{Satisfied, Frontier}
+use Rattle.rules.specs.declared.State.the-variants as state
 
 -- every write lies in another area, or at another place of this one
 abbrev Elsewhere : Area → ℕ → List Write → Type 0
@@ -99,15 +100,15 @@ module _ (w : List ℕ) (key state x n m : ℕ) (h : key < requirements) where
       (sound-put cacheStates 2 key state w tt tt h a s)))
 
 -- "the dead requirement's cache stays dirty": no words say that it is dead
-never-dead : (state x n m : ℕ) → cacheBy state x n m ≡ Known Dead → ⊥
+never-dead : (state x n m : ℕ) → cacheBy state x n m ≡ Known state.Dead → ⊥
 unfolding cacheBy
 never-dead state x n m = go (eqb state 0) (eqb state 1)
   where
-    go : (a b : Bool) → cond a Dirty (cond b (Known (Satisfied x)) (Known (Frontier x n m))) ≡ Known Dead → ⊥
+    go : (a b : Bool) → cond a Dirty (cond b (Known (Satisfied x)) (Known (Frontier x n m))) ≡ Known state.Dead → ⊥
     go true b q = false≢true (cc)
     go false true q = false≢true (cc)
     go false false q = false≢true (cc)
 
-pub never-known-dead : (w : List ℕ) (key : ℕ) → cacheOf w key ≡ Known Dead → ⊥
+pub never-known-dead : (w : List ℕ) (key : ℕ) → cacheOf w key ≡ Known state.Dead → ⊥
 unfolding cacheOf
 never-known-dead w key q = never-dead (at cacheStates key w) (at cacheCandidates key w) (at cacheNames key w) (at cacheCounts key w) q

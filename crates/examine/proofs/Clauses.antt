@@ -7,10 +7,11 @@ use Prim.Native.Nat.{ℕ, _<_}
 use borrow.Author.Tests.{eq-eqb, ne-eqb}
 use Rattle.evaluate.proofs.Records.{clause-word}
 use Rattle.evaluate.specs.Standing.{envOf, markOf}
-use Rattle.evaluate.specs.View.{assigned, literalsAt}
+use Rattle.evaluate.specs.View.{literalsAt}
 use Rattle.rules.specs.Walk.{active, allFalse, isTrue}
 use Rattle.store.specs.Area.{at}
 use Rattle.store.specs.Layout.{clauseConditions, clauseCount, clauseParents, queued}
+use Rattle.trail.specs.Assignment.{assigned}
 
 -- "A clause is active if its parent is true and every literal of its condition is false"
 module _ (w : List ℕ) (k : ℕ) (l : k < at clauseCount 0 w) (p : ℕ) (e : p ≡ at clauseParents k w) where

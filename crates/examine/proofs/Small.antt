@@ -11,10 +11,10 @@ use lib.ListN.{length, getD, take, drop, length-take}
 use lib.Seq.{getD-take, getD-drop}
 use Rattle.evaluate.proofs.Froms.{every-both}
 use Rattle.evaluate.proofs.Cells.{firstThat, undecidedIn, undecided-search, trueIn, true-search}
-use Rattle.evaluate.specs.View.{assigned, from, listAt, listsAt}
+use Rattle.evaluate.specs.View.{listAt, listsAt}
 use Rattle.requirement.specs.Tables.{cellsOf, firstSlot, listCount, nameOf, setOf}
 use Rattle.rules.specs.Walk.{CandidateList, countUndecided, evaluate, firstTrue, firstUndecided, flattened, frontier, isUndecided, orElse, orNext}
-use Rattle.store.proofs.Choice.{both}
+use Rattle.rules.proofs.Choice.{both}
 use Rattle.store.proofs.Counting.{every-of}
 use Rattle.store.specs.Area.{area, at}
 use Rattle.store.specs.Layout.{candidates, listLengths, listStarts, setNames}
@@ -23,13 +23,16 @@ use Rattle.store.specs.Shape.{Sound, every, upTo}
 use Rattle.rules.specs.declared.Found.{Found}
 use Rattle.rules.specs.declared.Found.the-variants.{At, Nowhere}
 use Rattle.rules.specs.declared.State.{State}
-use Rattle.rules.specs.declared.State.the-variants.{Satisfied, Frontier, Dead}
-use Rattle.trail.specs.declared.Value.{Value}
+use Rattle.rules.specs.declared.State.the-variants.{Satisfied, Frontier}
+use Rattle.rules.specs.declared.Value.{Value}
+use Rattle.trail.specs.Assignment.{assigned}
+use Rattle.rules.specs.Numbers.{from}
+use Rattle.rules.specs.declared.State.the-variants as state
 
 abbrev pub Small : State → Type 0
 Small (Satisfied x) = x ≤ lastVariable
 Small (Frontier x n m) = (x ≤ lastVariable) × (n ≤ lastName) × (m ≤ cellRoom)
-Small Dead = Unit {0}
+Small state.Dead = Unit {0}
 
 -- variables all, so the one that a search finds
 found-small : (p : ℕ → Bool) (vs : List ℕ) (x : ℕ) → every (upTo lastVariable) vs ≡ true → firstThat p vs ≡ At x → x ≤ lastVariable

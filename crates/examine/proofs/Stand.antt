@@ -12,12 +12,12 @@ use lib.ListN.{length}
 use Rattle.evaluate.proofs.Records.{clause-inside, clause-word, key-below}
 use Rattle.evaluate.proofs.Frames.{assigned-same, env-same, cachesRegion}
 use Rattle.evaluate.specs.Standing.{envOf, markOf, cacheBy, cacheOf, ofClause, queueOf}
-use Rattle.evaluate.specs.View.{assigned, listsAt}
+use Rattle.evaluate.specs.View.{listsAt}
 use Rattle.examine.proofs.CacheLaws.{area-cached, length-cached, cache-else, cache-written, never-known-dead, sound-cached}
 use Rattle.examine.proofs.Small.{Small, evaluate-small}
 use Rattle.examine.specs.Cache.{cached, dropped, filled, clauseKey, visitedBy, refreshed, saved, seenAt, visited, wordOperations}
 use Rattle.rules.proofs.Following.{Stands}
-use Rattle.rules.specs.Queue.{fill, keep, seen, stateIn, unmark}
+use Rattle.rules.specs.Queue.{fill, keep, examine, stateIn, unmark}
 use Rattle.rules.specs.Walk.{Environment, active, evaluate}
 use Rattle.store.proofs.AreaLaws.{apart-inside, area-kept, at-kept, at-put-else, at-put-same, length-put}
 use Rattle.store.proofs.Soundness.{sound-put}
@@ -27,11 +27,14 @@ use Rattle.store.specs.Limits.{cellRoom, lastName, lastVariable}
 use Rattle.store.specs.Shape.{Sound}
 use Rattle.rules.specs.declared.Cache.{Cache}
 use Rattle.rules.specs.declared.Cache.the-variants.{Dirty, Known}
-use Rattle.rules.specs.declared.Seen.{Seen}
-use Rattle.rules.specs.declared.Seen.the-variants.{Shut, Open, Gone}
 use Rattle.rules.specs.declared.State.{State}
-use Rattle.rules.specs.declared.State.the-variants.{Satisfied, Frontier, Dead}
-use Rattle.trail.specs.declared.Value.{Value}
+use Rattle.rules.specs.declared.State.the-variants.{Satisfied, Frontier}
+use Rattle.rules.specs.declared.Value.{Value}
+use Rattle.trail.specs.Assignment.{assigned}
+use Rattle.rules.specs.declared.Finding.{Finding}
+use Rattle.rules.specs.declared.Finding.the-variants.{Shut, Open}
+use Rattle.rules.specs.declared.State.the-variants as state
+use Rattle.rules.specs.declared.Finding.the-variants as finding
 
 -- an examination leaves the words, or writes its requirement's cache with numbers in range: what holds of both holds of what it leaves
 module _ (P : List ℕ → Type 0) (w : List ℕ) (key : ℕ) (same : P w) (step : (state x n m : ℕ) → state ≤ 2 → x ≤ lastVariable → n ≤ lastName → m ≤ cellRoom → P (cached w key state x n m)) where
@@ -40,7 +43,7 @@ module _ (P : List ℕ → Type 0) (w : List ℕ) (key : ℕ) (same : P w) (step
   refreshed-leaves (Known u) t s = same
   refreshed-leaves Dirty (Satisfied x) s = step 1 x 0 0 (omega arith) s (omega arith) (omega arith)
   refreshed-leaves Dirty (Frontier x n m) s = step 2 x n m (omega arith) (s .0) (s .1) (s .2)
-  refreshed-leaves Dirty Dead s = same
+  refreshed-leaves Dirty state.Dead s = same
 
 module _ (w : List ℕ) (h : Sound w) (k : ℕ) where
   key : ℕ
@@ -78,10 +81,10 @@ module _ (w : List ℕ) (h : Sound w) (k : ℕ) where
   unfolding saved cacheBy key
   cache-refreshed (Known (Satisfied x)) t e = e
   cache-refreshed (Known (Frontier x n m)) t e = e
-  cache-refreshed (Known Dead) t e = absurd (never-known-dead w key e)
+  cache-refreshed (Known state.Dead) t e = absurd (never-known-dead w key e)
   cache-refreshed Dirty (Satisfied x) e = cache-written w key 1 x 0 0 (key-below w k h) (h .long)
   cache-refreshed Dirty (Frontier x n m) e = cache-written w key 2 x n m (key-below w k h) (h .long)
-  cache-refreshed Dirty Dead e = e
+  cache-refreshed Dirty state.Dead e = e
 
   cache-filled : (j : ℕ) → cacheOf (filled w k) j ≡ (fill (envOf w) (assigned w) (queueOf w) k) .cache j
   unfolding filled key state
@@ -182,11 +185,11 @@ pub beside-visited : (s w : List ℕ) → Beside s w → (k : ℕ) → k < at cl
 unfolding visited
 beside-visited s w g k l = go (markOf s k) (seenAt s k)
   where
-    go : (b : Bool) (v : Seen) → Beside (visitedBy b v s (filled s k) (dropped (filled s k) k)) w
+    go : (b : Bool) (v : Finding) → Beside (visitedBy b v s (filled s k) (dropped (filled s k) k)) w
     go false v = g
     go true Shut = beside-dropped (filled s k) w (beside-filled s w g k) k l
     go true (Open x n m) = beside-filled s w g k
-    go true Gone = beside-filled s w g k
+    go true finding.Dead = beside-filled s w g k
 
 -- THE SIX FACTS: the words stand for a queue, at the environment and the assignment of the store that the walk began with
 pub stands : (w : List ℕ) → Stands wordOperations (envOf w) (assigned w) queueOf (λ s. Beside s w)
@@ -194,10 +197,10 @@ unfolding seenAt
 stands w =
     record {
       mark-is = λ s k l g. refl;
-      seen-is =
+      examine-is =
           λ s k l g.
-          ap (λ (e : Environment). seen e (assigned s) (queueOf s) k) (env-beside s w g)
-          ∙ ap (λ (a : ℕ → Value). seen (envOf w) a (queueOf s) k) (assigned-beside s w g);
+          ap (λ (e : Environment). examine e (assigned s) (queueOf s) k) (env-beside s w g)
+          ∙ ap (λ (a : ℕ → Value). examine (envOf w) a (queueOf s) k) (assigned-beside s w g);
       fill-is =
           λ s k l g.
           fill-is s (g .sound) k

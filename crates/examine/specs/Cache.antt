@@ -3,20 +3,23 @@ use mathlib.Core.Bool.{Bool, true, false, cond}
 use mathlib.Core.List.{List, [], _∷_}
 use Prim.Native.Nat.{ℕ}
 use Rattle.evaluate.specs.Standing.{envOf, cacheOf, markOf, queueOf, ofClause}
-use Rattle.evaluate.specs.View.{assigned, listsAt}
-use Rattle.rules.specs.Queue.{Operations, seen}
+use Rattle.evaluate.specs.View.{listsAt}
+use Rattle.rules.specs.Queue.{Operations, examine}
 use Rattle.rules.specs.Walk.{active, evaluate}
 use Rattle.store.specs.Area.{Write, put, puts, write}
 use Rattle.store.specs.Codes.{satisfied, frontier}
 use Rattle.store.specs.Layout.{queued, cacheStates, cacheCandidates, cacheNames, cacheCounts, clauseRequirements}
 use Rattle.rules.specs.declared.Cache.{Cache}
 use Rattle.rules.specs.declared.Cache.the-variants.{Dirty, Known}
-use Rattle.rules.specs.declared.Seen.{Seen}
-use Rattle.rules.specs.declared.Seen.the-variants.{Shut, Open, Gone}
 use Rattle.rules.specs.declared.State.{State}
-use Rattle.rules.specs.declared.State.the-variants.{Satisfied, Frontier, Dead}
+use Rattle.rules.specs.declared.State.the-variants.{Satisfied, Frontier}
 use Rattle.examine.specs.declared.Met.{Met}
 use Rattle.examine.specs.declared.Met.the-variants.{Unqueued, Dropped, Opened, Dead as MetDead}
+use Rattle.trail.specs.Assignment.{assigned}
+use Rattle.rules.specs.declared.Finding.{Finding}
+use Rattle.rules.specs.declared.Finding.the-variants.{Shut, Open}
+use Rattle.rules.specs.declared.State.the-variants as state
+use Rattle.rules.specs.declared.Finding.the-variants as finding
 
 -- the four words of a cache
 abbrev pub cacheWrites : ℕ → ℕ → ℕ → ℕ → ℕ → List Write
@@ -30,7 +33,7 @@ cached w key state candidate name count = puts (cacheWrites key state candidate 
 unfoldable pub saved : List ℕ → ℕ → State → List ℕ
 saved w key (Satisfied x) = cached w key satisfied x 0 0
 saved w key (Frontier x n m) = cached w key frontier x n m
-saved w key Dead = w
+saved w key state.Dead = w
 
 -- a cache that is not dirty is believed and left; a dirty one gets what its requirement is
 abbrev pub refreshed : List ℕ → ℕ → Cache → State → List ℕ
@@ -42,8 +45,8 @@ abbrev pub clauseKey : List ℕ → ℕ → ℕ
 clauseKey w k = ofClause clauseRequirements w k
 
 -- what an examination of clause k finds: only an active clause's cache is asked
-unfoldable pub seenAt : List ℕ → ℕ → Seen
-seenAt w k = seen (envOf w) (assigned w) (queueOf w) k
+unfoldable pub seenAt : List ℕ → ℕ → Finding
+seenAt w k = examine (envOf w) (assigned w) (queueOf w) k
 
 -- "caches filled": the words after the examination of clause k
 unfoldable pub filled : List ℕ → ℕ → List ℕ
@@ -58,21 +61,21 @@ dropped w k = put queued k 0 w
 
 -- the words as a state of the walk
 abbrev pub wordOperations : Operations (List ℕ)
-wordOperations = record { mark = markOf; seen = seenAt; fill = filled; drop = dropped }
+wordOperations = record { mark = markOf; examine = seenAt; fill = filled; drop = dropped }
 
 -- a visit: "A clause leaves the queue exactly when the walk examines it queued and finds it not open"
-abbrev pub metBy : Bool → Seen → Met
+abbrev pub metBy : Bool → Finding → Met
 metBy false v = Unqueued
 metBy true Shut = Dropped
 metBy true (Open x n m) = Opened x n m
-metBy true Gone = MetDead
+metBy true finding.Dead = MetDead
 
 -- the words that a visit leaves: a clause that is shut leaves the queue
-abbrev pub visitedBy : Bool → Seen → List ℕ → List ℕ → List ℕ → List ℕ
+abbrev pub visitedBy : Bool → Finding → List ℕ → List ℕ → List ℕ → List ℕ
 visitedBy false v w f d = w
 visitedBy true Shut w f d = d
 visitedBy true (Open x n m) w f d = f
-visitedBy true Gone w f d = f
+visitedBy true finding.Dead w f d = f
 
 -- what a visit of clause k meets
 unfoldable pub metAt : List ℕ → ℕ → Met

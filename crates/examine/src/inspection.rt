@@ -4,10 +4,10 @@ ghost use Prim.Native.Nat.{_<_};
 ghost use Rattle.store.specs.Area.{at};
 ghost use Rattle.store.specs.Layout.{clauseCount};
 ghost use Rattle.store.specs.Shape.{Sound};
-ghost use Rattle.rules.specs.Walk.{active, seenAs};
+ghost use Rattle.rules.specs.Walk.{active, findingOf};
 ghost use Rattle.evaluate.specs.Standing.{envOf};
-ghost use Rattle.evaluate.specs.View.{assigned};
 ghost use Rattle.examine.specs.Cache.{seenAt, filled, metAt, visited};
+ghost use Rattle.trail.specs.Assignment.{assigned};
 use crate::Met;
 use crate::caches;
 use evaluate::assignment;
@@ -33,7 +33,7 @@ fn is_active(s: &[u32], k: usize) -> bool
 
 // What an active clause is by its requirement's state.
 fn seen_as(state: State) -> Seen
-    ensures { λ r. ⌜ r ≡ seenAs state ⌝ }
+    ensures { λ r. ⌜ r ≡ findingOf state ⌝ }
 {
     match state {
         State::Satisfied(_) => Seen::Shut,

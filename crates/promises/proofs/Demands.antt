@@ -14,10 +14,11 @@ use Rattle.rules.proofs.Demand.{reached-inv, synced-holds}
 use Rattle.rules.specs.Invariant.{Holds}
 use Rattle.rules.specs.Walk.{Environment, inMode, walk}
 use Rattle.store.specs.Limits.{names}
-use Rattle.evaluate.specs.View.{assigned}
 use Rattle.rules.specs.declared.Out.{Out}
-use Rattle.rules.specs.declared.Out.the-variants.{Nothing, Dead as DeadClause, Choose}
-use Rattle.trail.specs.declared.Value.{Value}
+use Rattle.rules.specs.declared.Out.the-variants.{Nothing, Choose}
+use Rattle.rules.specs.declared.Value.{Value}
+use Rattle.trail.specs.Assignment.{assigned}
+use Rattle.rules.specs.declared.Out.the-variants as out
 
 -- the queue of a reached and synced store is right for the present assignment
 pub reached-holds : (w : List ℕ) → ReachedWords w → unsynced w ≡ false → Holds (envOf w) (assigned w) [] (queueOf w)
@@ -51,7 +52,7 @@ env-but-mode w u s =
 -- and are told the same of one answer
 told-same : (w u : List ℕ) → SameClauses w u → (o : Out) (d e : ℕ) → undropped (told w o d) ≡ undropped (told u o e)
 told-same w u s Nothing d e = refl
-told-same w u s (DeadClause c) d e = refl
+told-same w u s (out.Dead c) d e = refl
 told-same w u s (Choose b) d e = rw (s .parents (b .clause), s .ids (b .clause))
 
 -- so they have one proposal where their walks answer alike

@@ -18,23 +18,22 @@ use Rattle.clauses.specs.Register.{knownCondition, conditionWord, literalCountO
 use Rattle.conditions.specs.Dnf.{behind, cross, nodeTerms, dnf, linked}
 use Rattle.conditions.specs.Rewrite.{tooMuch, rewriteInLengths, rewriteInCells, rewriteTests}
 use Rattle.evaluate.specs.Standing.{ofClause, cacheBy, cacheOf, markOf}
-use Rattle.evaluate.specs.View.{assigned, from, listAt, listsAt, literalAt, literalsAt}
+use Rattle.evaluate.specs.View.{listAt, listsAt, literalAt, literalsAt}
 use Rattle.examine.specs.Cache.{cached, saved, seenAt, filled}
 use Rattle.promises.proofs.Stepping.{Ran, ran, run-is, runIn, stepIn}
 use Rattle.proposal.specs.Propose.{answer, proposalIn, proposalInStore, unsynced}
 use Rattle.requirement.specs.Copy.{tabled}
 use Rattle.requirement.specs.Load.{adds, known, fitting, putLists, tableAt, loadedSingle, loadedUnion, loaded as tableMade, loadTests}
 use Rattle.requirement.specs.Tables.{requirementOf, firstSlot, setCount, listCount, setOf, cellsOf}
-use Rattle.rules.specs.Queue.{seen, queuedTurn}
-use Rattle.rules.specs.Sweep.{touches}
-use Rattle.rules.specs.Sync.{meets}
+use Rattle.rules.specs.Queue.{examine, queuedTurn}
+use Rattle.rules.specs.Sync.{meets, mentions}
 use Rattle.rules.specs.Walk.{member, allFalse, flattened, firstTrue, firstUndecided, countUndecided, frontier, evaluate, largest, anyHot, upTo}
-use Rattle.settings.specs.Activity.{good, admitted}
+use Rattle.rules.specs.Activity.{good, admitted}
 use Rattle.settings.specs.Settings.{activityWith, quiet, activityOn, activityOnStore, activityTests}
 use Rattle.store.specs.Area.{area, at, put, putRun, blank}
 use Rattle.store.specs.Fresh.{freshWords, freshRow}
 use Rattle.store.specs.Lent.{lengthsOf, joined, over}
-use Rattle.store.specs.Numbers.{allFrom}
+use Rattle.rules.specs.Numbers.{allFrom, from}
 use Rattle.store.specs.Ranks.{moved, inserted}
 use Rattle.store.specs.Shape.{every}
 use Rattle.sync.specs.Sweep.{sweep}
@@ -49,6 +48,7 @@ use Rattle.trail.specs.Entries.{decisionAt, levelAt, levelOfLast, entryAbove}
 use Rattle.trail.specs.UndoLast.{popped, undoLastTests}
 use Rattle.trail.specs.UndoUntil.{poppedTo, cleared, noStop, undoUntilTests}
 use lib.Ieee.{odd, ofFields, ofBits, toBits, size, climb, span}
+use Rattle.trail.specs.Assignment.{assigned}
 
 -- a script's calls answer what they must
 abbrev Says : List ℕ → List Line → Type 0
@@ -125,7 +125,7 @@ unfoldable onwardOf : Ran → List (List (List ℕ))
 onwardOf r = r .said ∷ eachIn (r .left) onward
 
 computed : (eachIn first alone ≡ map expected alone) × (onwardOf third ≡ map expected (p3 ∷ onward))
-unfolding otherName newName nameCount newNames distinctNames behindLast knownCondition conditionWord literalCountOf allNamed hasRoom registerTests queuedMark recordIn registered behind cross nodeTerms dnf linked lengthsOf joined tooMuch rewriteTests over rewriteInLengths rewriteInCells ofClause cacheBy cacheOf markOf assigned from listAt listsAt literalAt literalsAt cached saved seenAt filled proposalIn proposalInStore runIn stepIn answer unsynced tabled adds known fitting loadTests putLists tableAt loadedSingle loadedUnion tableMade requirementOf firstSlot setCount listCount setOf cellsOf seen queuedTurn upTo touches meets member allFalse flattened firstTrue firstUndecided countUndecided frontier evaluate largest anyHot good admitted activityWith quiet activityOn activityOnStore activityTests area at put putRun blank freshWords allFrom moved inserted every sweep wordsFrom oldEntries newEntries touchedIn touchesIn wakesAt spoilsAt wokenWords spoiledWords sweptWords copiedWords mirroredWords syncInStore loaded leafIn branchIn loadConditionTests leafed branched nodePut literalsOf loadVersionSetTests assignOn assignTests pushed cellValue cellSide cellLevel cellOf decisionAt levelAt levelOfLast entryAbove popped undoLastTests poppedTo cleared noStop undoUntilTests odd ofFields ofBits toBits size climb span onwardOf
+unfolding otherName newName nameCount newNames distinctNames behindLast knownCondition conditionWord literalCountOf allNamed hasRoom registerTests queuedMark recordIn registered behind cross nodeTerms dnf linked lengthsOf joined tooMuch rewriteTests over rewriteInLengths rewriteInCells ofClause cacheBy cacheOf markOf assigned from listAt listsAt literalAt literalsAt cached saved seenAt filled proposalIn proposalInStore runIn stepIn answer unsynced tabled adds known fitting loadTests putLists tableAt loadedSingle loadedUnion tableMade requirementOf firstSlot setCount listCount setOf cellsOf examine queuedTurn upTo mentions meets member allFalse flattened firstTrue firstUndecided countUndecided frontier evaluate largest anyHot good admitted activityWith quiet activityOn activityOnStore activityTests area at put putRun blank freshWords allFrom moved inserted every sweep wordsFrom oldEntries newEntries touchedIn touchesIn wakesAt spoilsAt wokenWords spoiledWords sweptWords copiedWords mirroredWords syncInStore loaded leafIn branchIn loadConditionTests leafed branched nodePut literalsOf loadVersionSetTests assignOn assignTests pushed cellValue cellSide cellLevel cellOf decisionAt levelAt levelOfLast entryAbove popped undoLastTests poppedTo cleared noStop undoUntilTests odd ofFields ofBits toBits size climb span onwardOf
 computed = (refl, refl)
 
 alone-say : each start alone ≡ map expected alone

@@ -7,7 +7,6 @@ use Prim.Native.Nat.{ℕ, _+_, _-_, _*_, _≤_, _<_}
 use lib.Dec.{T}
 use Rattle.evaluate.proofs.Frames.{assigned-same, trail-same}
 use Rattle.evaluate.specs.Standing.{storeOf, trailOf}
-use Rattle.evaluate.specs.View.{assigned}
 use Rattle.rules.proofs.Map.{Grown}
 use Rattle.rules.specs.Store.{Reached}
 use Rattle.rules.specs.Sync.{Entry, value}
@@ -16,7 +15,8 @@ use Rattle.store.specs.Area.{Area, area, at}
 use Rattle.store.specs.Layout.{clauseConditions, clauseCount, clausesRegion, disjunctionSizes, disjunctionStarts, environmentRegion, literalCount, map, setNames, tablesLoaded, tablesRegion, trailRegion, unionSets, unionSizes}
 use Rattle.store.specs.Limits.{unionRoom, unions, versionSets}
 use Rattle.store.specs.Shape.{Sound}
-use Rattle.trail.specs.declared.Value.{Value}
+use Rattle.rules.specs.declared.Value.{Value}
+use Rattle.trail.specs.Assignment.{assigned}
 
 -- a variable has the value of its entry in the trail, and stands there once
 pub record Mapped (w : List ℕ) : Type 0 where

@@ -25,7 +25,7 @@ use Rattle.rules.proofs.Ranks.{at-rank}
 use Rattle.rules.proofs.Placing.{fresh-position, register-position}
 use Rattle.rules.specs.Position.{ranks, History, InPosition, SameHistory, filed, noHistory}
 use Rattle.rules.specs.Store.{Store}
-use Rattle.store.proofs.Choice.{lt-or}
+use Rattle.rules.proofs.Choice.{lt-or}
 use Rattle.store.proofs.Rows.{judged-clear}
 use Rattle.store.specs.declared.Made.the-variants.{Done as MadeDone}
 use Rattle.store.specs.Row.{guarded}

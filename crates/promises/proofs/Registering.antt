@@ -18,7 +18,7 @@ use Rattle.clauses.specs.Register.{knownCondition, conditionWord, Placed, queue
 use Rattle.evaluate.proofs.Frames.{cachesRegion, lists-same, literals-same, cache-same, mirror-same, trail-same}
 use Rattle.evaluate.proofs.Records.{clause-word, clause-none}
 use Rattle.evaluate.specs.Standing.{markOf, ofClause, storeOf, trailOf}
-use Rattle.evaluate.specs.View.{assigned, literalsAt}
+use Rattle.evaluate.specs.View.{literalsAt}
 use Rattle.promises.proofs.Genuine.{Genuine, Mapped, AllLoaded, mapped-frame, all-loaded-by-tables}
 use Rattle.requirement.specs.Tables.{keyAt}
 use Rattle.rules.proofs.Ranks.{inserted-above, inserted-at, inserted-below}
@@ -26,14 +26,15 @@ use Rattle.rules.specs.Store.{Reached, behind, inserted, rank, registered as re
 use Rattle.rules.specs.Sync.{value}
 use Rattle.rules.specs.Walk.{isTrue}
 use Rattle.store.proofs.AreaLaws.{at-same, within}
-use Rattle.store.proofs.Choice.{eq-or, lt-or}
+use Rattle.rules.proofs.Choice.{eq-or, lt-or}
 use Rattle.store.specs.Area.{Area, apart, area, at}
 use Rattle.store.specs.Layout.{activities, clauseConditions, clauseCount, clauseIds, clauseParents, clauseRequirements, clausesRegion, disjunctionSizes, hotNames, map, mirrorRegion, mode, queued, settingsRegion, syncFloor, tablesRegion, trailRegion}
 use Rattle.store.specs.Limits.{lastLevel, lastWord, names}
 use Rattle.store.specs.Shape.{Sound, soundShape}
 use Rattle.tables.specs.Answer.{loaded}
 use Rattle.trail.specs.Cell.{cellSide, cellValue}
-use Rattle.trail.specs.declared.Value.the-variants.{False, True, Undecided}
+use Rattle.rules.specs.declared.Value.the-variants.{False, True, Undecided}
+use Rattle.trail.specs.Assignment.{assigned}
 
 -- the words' rank is the rules' rank
 ranks-agree : (w : List ℕ) (parent n k : ℕ) → k ≤ at clauseCount 0 w → behindLast w parent n k ≡ behind (ofClause clauseParents w) parent k n

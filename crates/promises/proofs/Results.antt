@@ -10,7 +10,7 @@ use borrow.Author.Tests.{eqb-false}
 use lib.Dec.{T, eqb, eqb→eq}
 use Rattle.evaluate.proofs.Froms.{length-mirror, length-trail}
 use Rattle.evaluate.specs.Standing.{envOf, markOf, queueOf}
-use Rattle.evaluate.specs.View.{assigned, from, listAt, listsAt}
+use Rattle.evaluate.specs.View.{listAt, listsAt}
 use Rattle.examine.proofs.Stand.{at-beside}
 use Rattle.promises.proofs.Calling.{reached-genuine, reached-sound}
 use Rattle.promises.proofs.Demands.{demand2, one-proposal, reached-holds}
@@ -31,7 +31,7 @@ use Rattle.rules.specs.Queue.{Queue, tally}
 use Rattle.rules.specs.Sync.{routes}
 use Rattle.rules.specs.Walk.{look, member, inMode, named, walk}
 use Rattle.store.proofs.AreaLaws.{at-past}
-use Rattle.store.proofs.Choice.{lt-or, true-false, or-cases}
+use Rattle.rules.proofs.Choice.{lt-or, true-false, or-cases}
 use Rattle.store.proofs.Soundness.{sound-facts}
 use Rattle.store.specs.Area.{at}
 use Rattle.store.specs.Layout.{activities, clauseCount, hotNames, mirrorLength, syncFloor, trailLength}
@@ -42,9 +42,13 @@ use Rattle.sync.proofs.Standing.{sync-is}
 use Rattle.sync.specs.Sync.{syncOut, syncStore, touchedIn}
 use Rattle.proposal.specs.declared.Proposal.the-variants.{Nothing as NoneOpen, Dead as DeadAt, Refused}
 use Rattle.rules.specs.declared.Out.{Out}
-use Rattle.rules.specs.declared.Out.the-variants.{Nothing, Dead as DeadClause, Choose}
-use Rattle.rules.specs.declared.Seen.the-variants.{Shut, Gone}
+use Rattle.rules.specs.declared.Out.the-variants.{Nothing, Choose}
 use Rattle.sync.specs.declared.Synced.the-variants.{Touches}
+use Rattle.trail.specs.Assignment.{assigned}
+use Rattle.rules.specs.Numbers.{from}
+use Rattle.rules.specs.declared.Finding.the-variants.{Shut}
+use Rattle.rules.specs.declared.Out.the-variants as out
+use Rattle.rules.specs.declared.Finding.the-variants as finding
 
 -- 7: "a proposal is asked of an unsynced store", exactly
 pub unsynced-exactly : (w : List ℕ) → soundShape w ≡ true → (numberOf w propose ≡ 7) ↔ (unsynced w ≡ true)
@@ -53,7 +57,7 @@ unsynced-exactly w h = rw (← propose-told w, h) (go (unsynced w))
   where
     other : (o : Out) (d : ℕ) → proposalNumber (told w o d) ≢ 7
     other Nothing d e = omega (arith, e)
-    other (DeadClause c) d e = omega (arith, e)
+    other (out.Dead c) d e = omega (arith, e)
     other (Choose b) d e = omega (arith, e)
 
     go : (b : Bool) → (proposalNumber (cond b (Refused 7) (told w (answer w .out) (answer w .drops))) ≡ 7) ↔ (b ≡ true)
@@ -68,7 +72,7 @@ module _ (w : List ℕ) (r : ReachedWords w) where
       where
         aside : (p : Out) (d : ℕ) → undropped (told w p d) ≡ undropped (told w p 0)
         aside Nothing d = refl
-        aside (DeadClause c) d = refl
+        aside (out.Dead c) d = refl
         aside (Choose b) d = refl
 
     -- "nothing is answered exactly when no clause is open"
@@ -78,20 +82,20 @@ module _ (w : List ℕ) (r : ReachedWords w) where
       where
         back : (o : Out) → undropped (told w o 0) ≡ NoneOpen 0 → o ≡ Nothing
         back Nothing e = refl
-        back (DeadClause c) e = cc
+        back (out.Dead c) e = cc
         back (Choose b) e = cc
 
-    dies : (clause : ℕ) → (walk (envOf w) (assigned w) ≡ DeadClause clause) ↔ Dies w clause
+    dies : (clause : ℕ) → (walk (envOf w) (assigned w) ≡ out.Dead clause) ↔ Dies w clause
     dies clause = walk-dies (envOf w) (assigned w) clause
 
     -- "A dead clause examined is refusal 8", "its clause id comes too"
     pub dead-exactly : (clause : ℕ) → (undropped (proposalOut w) ≡ DeadAt clause 0) ↔ Dies w clause
     dead-exactly clause =
-        (λ e. dies clause .0 (back (walk (envOf w) (assigned w)) (sym (as-walked _ refl) ∙ e)), λ d. as-walked (DeadClause clause) (dies clause .1 d))
+        (λ e. dies clause .0 (back (walk (envOf w) (assigned w)) (sym (as-walked _ refl) ∙ e)), λ d. as-walked (out.Dead clause) (dies clause .1 d))
       where
-        back : (o : Out) → undropped (told w o 0) ≡ DeadAt clause 0 → o ≡ DeadClause clause
+        back : (o : Out) → undropped (told w o 0) ≡ DeadAt clause 0 → o ≡ out.Dead clause
         back Nothing e = cc
-        back (DeadClause c) e = cc
+        back (out.Dead c) e = cc
         back (Choose b) e = cc
 
     -- and the number is 8 then alone
@@ -100,7 +104,7 @@ module _ (w : List ℕ) (r : ReachedWords w) where
       where
         back : (o : Out) → walk (envOf w) (assigned w) ≡ o → proposalNumber (told w o (answer w .drops)) ≡ 8 → (clause : ℕ) × Dies w clause
         back Nothing q e = absurd (omega (arith, e))
-        back (DeadClause c) q e = (c, dies c .0 q)
+        back (out.Dead c) q e = (c, dies c .0 q)
         back (Choose b) q e = absurd (omega (arith, e))
 
     -- "A clause leaves the queue exactly when the walk examines it queued and finds it not open"; and none enters
@@ -128,7 +132,7 @@ drops-are-counted w = go (soundShape w) (unsynced w) refl
   where
     dropped : (o : Out) (d : ℕ) → dropsOf (told w o d) ≡ d
     dropped Nothing d = refl
-    dropped (DeadClause c) d = refl
+    dropped (out.Dead c) d = refl
     dropped (Choose b) d = refl
 
     walked : Sound w → queueSize w ≡ queueSize (answer w .left) + dropsOf (told w (answer w .out) (answer w .drops))
@@ -146,7 +150,7 @@ drops-are-counted w = go (soundShape w) (unsynced w) refl
 
 -- "Where no open clause is dead and every cold name's activity is zero, both modes give the same proposal, drop count aside"
 module _ (w u : List ℕ) (r : ReachedWords w) (q : ReachedWords u) (same : SameButMode w u)
-    (alive : (k : ℕ) → k < at clauseCount 0 u → look (envOf u) (assigned u) k ≢ Gone)
+    (alive : (k : ℕ) → k < at clauseCount 0 u → look (envOf u) (assigned u) k ≢ finding.Dead)
     (cold : (name : ℕ) → name < names → at hotNames name u ≢ 1 → at activities name u ≡ 0) where
   cold-zero : (name : ℕ) → eqb (at hotNames name u) 1 ≡ false → at activities name u ≡ 0
   cold-zero name e =

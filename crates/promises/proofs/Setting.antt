@@ -12,7 +12,7 @@ use Rattle.rules.specs.Store.{Reached, then, tuned, tunes}
 use Rattle.settings.proofs.Kept.{activity-outside, activity-sound, hot-outside, hot-sound, mode-outside, mode-sound}
 use Rattle.settings.specs.Settings.{activityInStore, activityStore, hotInStore, hotStore, modeInStore, modeStore}
 use Rattle.store.proofs.AreaLaws.{at-same}
-use Rattle.store.proofs.Choice.{cond-either}
+use Rattle.rules.proofs.Choice.{cond-either}
 use Rattle.store.specs.Area.{Area, apart, area}
 use Rattle.store.specs.Layout.{clausesRegion, mirrorRegion, queueRegion, settingsRegion, syncFloor, tablesRegion, trailRegion}
 use Rattle.store.specs.Shape.{Sound, soundShape}

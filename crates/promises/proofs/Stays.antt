@@ -10,7 +10,7 @@ use lib.Dec.{T, eqb}
 use Rattle.evaluate.proofs.Frames.{mirror-same, queue-same, trail-same}
 use Rattle.evaluate.proofs.Froms.{from-agree}
 use Rattle.evaluate.specs.Standing.{envOf, ofClause, queueOf, storeOf}
-use Rattle.evaluate.specs.View.{from, listAt, listsAt, literalAt, literalsAt}
+use Rattle.evaluate.specs.View.{listAt, listsAt, literalAt, literalsAt}
 use Rattle.promises.proofs.Genuine.{Genuine, AllLoaded, mapped-frame}
 use Rattle.requirement.proofs.Kept.{tableRegion}
 use Rattle.requirement.proofs.Views.{listed-sets}
@@ -18,12 +18,13 @@ use Rattle.requirement.specs.Tables.{cellsOf, firstSlot, listCount, setCount, s
 use Rattle.rules.specs.Store.{Reached, changed, loaded, relisted, remade}
 use Rattle.rules.specs.Walk.{CandidateList}
 use Rattle.store.proofs.AreaLaws.{area-same, at-past, at-same, within}
-use Rattle.store.proofs.Choice.{eq-or, lt-or}
+use Rattle.rules.proofs.Choice.{eq-or, lt-or}
 use Rattle.store.specs.Area.{Area, area, at, apart}
 use Rattle.store.specs.Layout.{activities, candidates, clauseConditions, clauseCount, clauseIds, clauseParents, clauseRequirements, disjunctionSizes, disjunctionStarts, hotNames, listLengths, listStarts, literalCount, literalSigns, literalVariables, mirrorRegion, mode, queueRegion, region, setNames, syncFloor, tablesLoaded, tablesRegion, trailRegion, unionSets, unionSizes}
 use Rattle.store.specs.Limits.{names, requirements, unionRoom, unions, versionSets}
 use Rattle.store.specs.Shape.{Sound}
 use Rattle.tables.proofs.BesideTables.{Beside}
+use Rattle.rules.specs.Numbers.{from}
 
 -- the words of version sets and unions, and those of disjunctions; `tableRegion` has those of the candidate tables
 abbrev pub setsRegion : Area

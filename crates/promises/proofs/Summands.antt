@@ -20,11 +20,11 @@ use Rattle.promises.proofs.Stays.{LiteralsStay, SetsStay, TablesStay, s
 use Rattle.promises.specs.Totals.{conditionNamed, overClauses, storedLiterals, sum}
 use Rattle.requirement.specs.Tables.{firstSlot, nameOf, setCount, setOf}
 use Rattle.store.proofs.AreaLaws.{at-same, within}
-use Rattle.store.proofs.Choice.{eq-or, lt-or}
+use Rattle.rules.proofs.Choice.{eq-or, lt-or}
 use Rattle.store.specs.Area.{Area, area, at}
 use Rattle.store.specs.Layout.{clauseCount, disjunctionSizes, setNames, tablesLoaded, tablesRegion, unionSets, unionSizes}
 use Rattle.store.specs.Limits.{disjunctions, lastWord, versionSets}
-use Rattle.store.specs.Numbers.{allFrom}
+use Rattle.rules.specs.Numbers.{allFrom}
 use Rattle.tables.specs.Disjunction.{literalsOf}
 
 -- SUMS: of the same numbers, and of numbers with one put in at a place

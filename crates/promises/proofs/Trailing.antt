@@ -10,7 +10,6 @@ use lib.Dec.{T, leb, eqb}
 use lib.ListN.{length, take}
 use Rattle.evaluate.proofs.Frames.{assigned-same, entry-by, env-same, mirror-same, queue-same, trail-by}
 use Rattle.evaluate.specs.Standing.{entryAt, storeOf, trailOf}
-use Rattle.evaluate.specs.View.{assigned}
 use Rattle.promises.proofs.Genuine.{Genuine, Mapped, mapped-same, all-loaded-frame}
 use Rattle.promises.proofs.Trails.{mapped-none, mapped-popped, mapped-pushed, trail-cut, trail-none, trail-pushed}
 use Rattle.rules.specs.Store.{Reached, Step, Store, push, same, then, undo}
@@ -29,7 +28,8 @@ use Rattle.trail.specs.Entries.{Entered, entries}
 use Rattle.trail.specs.Next.{nextStore}
 use Rattle.trail.specs.UndoLast.{popped, undoLastStore}
 use Rattle.trail.specs.UndoUntil.{cleared, undoUntilStore}
-use Rattle.trail.specs.declared.Value.the-variants.{False, True, Undecided}
+use Rattle.rules.specs.declared.Value.the-variants.{False, True, Undecided}
+use Rattle.trail.specs.Assignment.{assigned}
 
 -- a store with another trail and floor
 abbrev trailed : Store → List Entry → ℕ → Store

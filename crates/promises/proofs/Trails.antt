@@ -12,7 +12,6 @@ use lib.ListN.{getD, take}
 use lib.Seq.{take-all}
 use Rattle.evaluate.proofs.Froms.{from-agree, from-more, getD-from, length-trail, take-from}
 use Rattle.evaluate.specs.Standing.{entryAt, trailOf}
-use Rattle.evaluate.specs.View.{assigned, from}
 use Rattle.promises.proofs.Genuine.{Mapped}
 use Rattle.rules.proofs.Map.{Grown, cut-grown, none, pop-map, push-grown, push-map}
 use Rattle.rules.specs.Store.{changed}
@@ -20,7 +19,9 @@ use Rattle.rules.specs.Sync.{Entry, value, valueOf}
 use Rattle.store.specs.Area.{at}
 use Rattle.store.specs.Layout.{map, trailLength, trailVariables}
 use Rattle.trail.specs.Cell.{cellValue}
-use Rattle.trail.specs.declared.Value.the-variants.{Undecided}
+use Rattle.rules.specs.declared.Value.the-variants.{Undecided}
+use Rattle.trail.specs.Assignment.{assigned}
+use Rattle.rules.specs.Numbers.{from}
 
 -- the trail's length and its entries
 trail-variable : (w : List ℕ) (k : ℕ) → k < at trailLength 0 w → (getD (trailOf w) k none) .variable ≡ at trailVariables k w

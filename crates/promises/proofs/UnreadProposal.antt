@@ -5,7 +5,7 @@ use mathlib.Core.Path.{_≡_, refl, ap, subst}
 use Prim.Native.Nat.{ℕ}
 use Rattle.evaluate.proofs.Frames.{assigned-same, cache-same, cachesRegion, clause-same, env-same, lists-same, mark-same, queue-same}
 use Rattle.evaluate.specs.Standing.{cacheOf, envOf, markOf, ofClause, queueOf}
-use Rattle.evaluate.specs.View.{assigned, listsAt}
+use Rattle.evaluate.specs.View.{listsAt}
 use Rattle.examine.specs.Cache.{cacheWrites, cached, clauseKey, filled, refreshed, saved, seenAt, wordOperations}
 use Rattle.imbolaverk.specs.Calls.{numberOf, propose, valuesOf}
 use Rattle.promises.proofs.UnreadWords.{Alike, area-alike, at-alike, either-alike, put-alike, puts-alike, sound-alike}
@@ -19,16 +19,19 @@ use Rattle.store.specs.Shape.{soundShape}
 use Rattle.rules.specs.declared.Cache.{Cache}
 use Rattle.rules.specs.declared.Cache.the-variants.{Dirty, Known}
 use Rattle.rules.specs.declared.State.{State}
-use Rattle.rules.specs.declared.State.the-variants.{Satisfied, Frontier, Dead}
+use Rattle.rules.specs.declared.State.the-variants.{Satisfied, Frontier}
 use Rattle.rules.specs.declared.Out.{Out}
-use Rattle.rules.specs.declared.Out.the-variants.{Nothing, Dead as DeadClause, Choose}
+use Rattle.rules.specs.declared.Out.the-variants.{Nothing, Choose}
+use Rattle.trail.specs.Assignment.{assigned}
+use Rattle.rules.specs.declared.State.the-variants as state
+use Rattle.rules.specs.declared.Out.the-variants as out
 
 -- a cache that is filled
 saved-alike : (key : ℕ) (t : State) (w u : List ℕ) → Alike w u → Alike (saved w key t) (saved u key t)
 unfolding saved cached
 saved-alike key (Satisfied x) w u e = puts-alike (cacheWrites key satisfied x 0 0) w u e
 saved-alike key (Frontier x n m) w u e = puts-alike (cacheWrites key frontier x n m) w u e
-saved-alike key Dead w u e = e
+saved-alike key state.Dead w u e = e
 
 refreshed-alike : (key : ℕ) (c : Cache) (t : State) (w u : List ℕ) → Alike w u → Alike (refreshed w key c t) (refreshed u key c t)
 refreshed-alike key Dirty t w u e = saved-alike key t w u e
@@ -75,7 +78,7 @@ steps-alike : (v : Environment) → Follows wordOperations wordOperations v Alik
 steps-alike v =
     record {
       mark-same = λ s q k l r. mark-alike s q r k;
-      seen-same = λ s q k l r. seen-alike s q r k;
+      examine-same = λ s q k l r. seen-alike s q r k;
       fill-same = λ s q k l r. filled-alike s q r k;
       drop-same = λ s q k l r. put-alike queued k 0 s q r;
     }
@@ -90,7 +93,7 @@ walked s v = queuedWalk wordOperations v s
 
 told-alike : (w u : List ℕ) (o : Out) (d : ℕ) → ofClause clauseParents w ≡ ofClause clauseParents u → ofClause clauseIds w ≡ ofClause clauseIds u → told w o d ≡ told u o d
 told-alike w u Nothing d p c = refl
-told-alike w u (DeadClause id) d p c = refl
+told-alike w u (out.Dead id) d p c = refl
 told-alike w u (Choose b) d p c = rw (p, c)
 
 module _ (w u : List ℕ) (e : Alike w u) where

@@ -11,7 +11,7 @@ use lib.Dec.{leb}
 use lib.ListN.{length, take, set, length-take}
 use lib.Seq.{take-set-le, take-set-lt}
 use Rattle.store.proofs.AreaLaws.{area-same, at-same, blank-none, blank-turn, within}
-use Rattle.store.proofs.Choice.{lt-or, of-true}
+use Rattle.rules.proofs.Choice.{lt-or, of-true}
 use Rattle.store.specs.Area.{Area, Write, area, at, blank, put, putRun, puts}
 use Rattle.store.specs.Fresh.{whole}
 use Rattle.store.specs.Layout.{map, table, words}

@@ -3,13 +3,13 @@ use mathlib.Core.Bool.{Bool}
 use mathlib.Core.List.{List}
 use Prim.Native.Nat.{ℕ}
 use Rattle.evaluate.specs.Standing.{envOf, markOf}
-use Rattle.evaluate.specs.View.{assigned}
 use Rattle.rules.specs.Leaving.{Dies as DiesAt, examined as examinedBy}
 use Rattle.rules.specs.Queue.{tally}
 use Rattle.proposal.specs.declared.Proposal.{Proposal}
 use Rattle.proposal.specs.declared.Proposal.the-variants.{Choose as Chosen, Nothing as NoneOpen, Dead as DeadAt, Refused}
 use Rattle.store.specs.Area.{at}
 use Rattle.store.specs.Layout.{clauseCount}
+use Rattle.trail.specs.Assignment.{assigned}
 
 -- a clause that is examined where it is queued
 abbrev pub examined : List ℕ → ℕ → Bool

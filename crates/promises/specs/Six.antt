@@ -4,11 +4,12 @@ use mathlib.Core.List.{List}
 use mathlib.Core.Path.{_≡_}
 use Prim.Native.Nat.{ℕ}
 use Rattle.evaluate.specs.Standing.{ofClause}
-use Rattle.evaluate.specs.View.{assigned, listsAt, literalsAt}
+use Rattle.evaluate.specs.View.{listsAt, literalsAt}
 use Rattle.store.specs.Area.{at}
 use Rattle.store.specs.Layout.{activities, clauseConditions, clauseCount, clauseIds, clauseParents, clauseRequirements, hotNames, mode}
 use Rattle.proposal.specs.declared.Proposal.{Proposal}
 use Rattle.proposal.specs.declared.Proposal.the-variants.{Choose as Chosen, Nothing as NoneOpen, Dead as DeadAt, Refused}
+use Rattle.trail.specs.Assignment.{assigned}
 
 -- the same clauses, rank by rank; a clause's condition by its literals, its parent, requirement and id by their numbers
 pub record SameClauses (w u : List ℕ) : Type 0 where

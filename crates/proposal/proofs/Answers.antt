@@ -7,18 +7,18 @@ use borrow.Author.Tests.{ltb-false}
 use lib.Dec.{ltb}
 use Rattle.evaluate.proofs.Froms.{length-mirror, length-trail}
 use Rattle.evaluate.specs.Standing.{envOf, queueOf, storeOf}
-use Rattle.evaluate.specs.View.{assigned}
 use Rattle.proposal.proofs.Kept.{answer-along}
 use Rattle.proposal.specs.Propose.{answer, proposalIn, told, unsynced}
 use Rattle.rules.proofs.Same.{same-walk}
 use Rattle.rules.specs.Invariant.{Holds}
 use Rattle.rules.specs.Store.{Synced}
 use Rattle.rules.specs.Walk.{walk}
-use Rattle.store.proofs.Choice.{neither}
+use Rattle.rules.proofs.Choice.{neither}
 use Rattle.store.specs.Area.{at}
 use Rattle.store.specs.Layout.{mirrorLength, syncFloor, trailLength}
 use Rattle.store.specs.Shape.{Sound}
 use Rattle.rules.specs.declared.Out.{Out}
+use Rattle.trail.specs.Assignment.{assigned}
 
 module _ (w : List ℕ) (h : Sound w) (q : Holds (envOf w) (assigned w) [] (queueOf w)) where
   -- where the queue is right for the assignment, the answer is the walk over every clause: the words answer as the queue, the queue as the walk

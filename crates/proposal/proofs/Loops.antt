@@ -19,25 +19,27 @@ use Rattle.rules.proofs.Cases.{better-either, onward-is}
 use Rattle.rules.specs.Position.{ranksFrom}
 use Rattle.rules.specs.Queue.{Answer, queuedTurn}
 use Rattle.rules.specs.Walk.{Environment, best, better, largest, upTo}
-use Rattle.store.proofs.Choice.{true-false}
+use Rattle.rules.proofs.Choice.{true-false}
 use Rattle.store.specs.Area.{at}
 use Rattle.store.specs.Layout.{activities, clauseCount, clauseIds, clauseParents}
-use Rattle.store.specs.Limits.{clauses, lastActivity, names}
+use Rattle.store.specs.Limits.{clauses, names}
 use Rattle.store.specs.Shape.{Sound}
 use Rattle.examine.specs.declared.Met.{Met}
 use Rattle.examine.specs.declared.Met.the-variants.{Unqueued, Dropped, Opened, Dead as MetDead}
 use Rattle.rules.specs.declared.Best.{Best}
 use Rattle.rules.specs.declared.Out.{Out}
-use Rattle.rules.specs.declared.Out.the-variants.{Nothing, Dead as DeadClause, Choose}
+use Rattle.rules.specs.declared.Out.the-variants.{Nothing, Choose}
 use Rattle.proposal.specs.declared.Proposal.the-variants.{Choose as Chosen, Nothing as NoneOpen, Dead as DeadAt}
 use Rattle.proposal.specs.declared.decide_queue.Walked.{Walked}
 use Rattle.proposal.specs.declared.decide_queue.Weighed.the-variants.{On, Enough, Fatal}
+use Rattle.rules.specs.Activity.{lastActivity}
+use Rattle.rules.specs.declared.Out.the-variants as out
 
 -- a chosen clause
 pub sane-choose : (w : List ℕ) (b : Best) → Fine w b → Sane w (Choose b)
 sane-choose w b h = record { chosen = λ c e. let p : b ≡ c = cc in rw p at h }
 
-pub sane-dead : (w : List ℕ) (x : ℕ) → Sane w (DeadClause x)
+pub sane-dead : (w : List ℕ) (x : ℕ) → Sane w (out.Dead x)
 sane-dead w x = record { chosen = λ c e. absurd (true-false (cc)) }
 
 pub sane-nothing : (w : List ℕ) → Sane w Nothing
@@ -227,7 +229,7 @@ module _ (w s : List ℕ) (n top k : ℕ) (b : Best) (d : ℕ) (whole : Answer (
           let i : at clauseIds k u ≡ ofClause clauseIds s k =
           at-beside u w second-beside clauseIds tt k ∙ sym (at-beside s w (here .beside) clauseIds tt k) ∙ sym (clause-word clauseIds s k (second-ready .1)) in
           sym (second-rest ∙ ap (λ y. onward (envOf s) y (ranksFrom (k + 1) (at clauseCount 0 w - (k + 1)))) (second-fatal s b k d h)
-          ∙ stays-ended (envOf s) (DeadClause (ofClause clauseIds s k)) d (weighed s b k) (λ _. refl) (ranksFrom (k + 1) (at clauseCount 0 w - (k + 1))) ∙ rw (i, q))
+          ∙ stays-ended (envOf s) (out.Dead (ofClause clauseIds s k)) d (weighed s b k) (λ _. refl) (ranksFrom (k + 1) (at clauseCount 0 w - (k + 1))) ∙ rw (i, q))
 
 -- the walk to the first best
 pub record First (w s : List ℕ) (n k d : ℕ) : Type 0 where
@@ -294,7 +296,7 @@ module _ (w s : List ℕ) (n k d : ℕ) (here : First w s n k d) where
       pub first-dies : metAt s j ≡ MetDead → ended (dying (at clauseIds k u) d) u ≡ answer w
       first-dies h =
           let same : at clauseIds k u ≡ ofClause clauseIds w k = at-beside u w first-beside clauseIds tt k ∙ sym (clause-word clauseIds w k first-inside) in
-          sym (first-met ∙ rw (h, same) (stays-ended (envOf w) (DeadClause (ofClause clauseIds w k)) d u (λ _. refl) later))
+          sym (first-met ∙ rw (h, same) (stays-ended (envOf w) (out.Dead (ofClause clauseIds w k)) d u (λ _. refl) later))
 
       -- what follows the first best is the rest of the walk
       module _ (b : Best) (x m c : ℕ) (e : b ≡ bestAt u k x m c) where
@@ -337,8 +339,8 @@ module _ (w s : List ℕ) (r : Walked) (ok : Sound w) (e : ended r s ≡ answer 
   pub told-nothing : r .out ≡ Nothing → (NoneOpen (r .drops) ≡ proposalIn w) × (s ≡ proposalInStore w)
   told-nothing h = (told-is Nothing h, left-told)
 
-  pub told-dead : (c : ℕ) → r .out ≡ DeadClause c → (DeadAt c (r .drops) ≡ proposalIn w) × (s ≡ proposalInStore w)
-  told-dead c h = (told-is (DeadClause c) h, left-told)
+  pub told-dead : (c : ℕ) → r .out ≡ out.Dead c → (DeadAt c (r .drops) ≡ proposalIn w) × (s ≡ proposalInStore w)
+  told-dead c h = (told-is (out.Dead c) h, left-told)
 
   pub told-choose : (b : Best) (k p c : ℕ) → r .out ≡ Choose b → Fine w b → k ≡ b .clause → p ≡ at clauseParents k s → c ≡ at clauseIds k s →
       (Chosen (b .candidate) p c (ofBits binary32 (b .activity)) (b .count) (r .drops) ≡ proposalIn w) × (s ≡ proposalInStore w)

@@ -11,17 +11,19 @@ use lib.Dec.{eqb, ltb}
 use Rattle.evaluate.proofs.Records.{clause-word}
 use Rattle.evaluate.proofs.Turns.{from-next, from-done}
 use Rattle.evaluate.specs.Standing.{envOf}
-use Rattle.evaluate.specs.View.{from, listAt, listsAt}
+use Rattle.evaluate.specs.View.{listAt, listsAt}
 use Rattle.proposal.specs.Propose.{unsynced}
 use Rattle.proposal.specs.Turn.{bestAt, coldAt, hotAt, largestAt, passedAt, shieldedAt, stopsAt, topAt}
 use Rattle.requirement.specs.Tables.{firstSlot, listCount, nameOf, setOf}
 use Rattle.rules.specs.Walk.{anyHot, better, largest}
-use Rattle.store.proofs.Choice.{or-none, or-true}
+use Rattle.rules.proofs.Choice.{or-none, or-true}
 use Rattle.store.specs.Area.{at}
 use Rattle.store.specs.Layout.{activities, clauseCount, clauseParents, clauseRequirements, hotNames, mirrorLength, mode, setNames, syncFloor, trailLength}
-use Rattle.store.specs.Limits.{lastActivity, names}
+use Rattle.store.specs.Limits.{names}
 use Rattle.store.specs.Shape.{Sound}
 use Rattle.rules.specs.declared.Best.{Best}
+use Rattle.rules.specs.Numbers.{from}
+use Rattle.rules.specs.Activity.{lastActivity}
 
 -- the name of a list is a name
 pub name-below : (w : List ℕ) (slot x : ℕ) → Sound w → x ≡ nameOf w (setOf w slot) → x < names

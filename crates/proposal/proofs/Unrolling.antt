@@ -11,18 +11,20 @@ use Rattle.examine.specs.Cache.{dropped, filled, visitedBy, metAt, metBy, seenA
 use Rattle.proposal.specs.Propose.{choosing, dying, ended, onward, soFar}
 use Rattle.proposal.specs.Turn.{bestAt, passedAt, stopsAt, weighBy, weighOf, weighed}
 use Rattle.rules.specs.Position.{ranksFrom}
-use Rattle.rules.specs.Queue.{queuedTurn, visited as examined}
+use Rattle.rules.specs.Queue.{queuedTurn, afterExamining as examined}
 use Rattle.rules.specs.Walk.{Environment, best, bestOf, better, examines}
-use Rattle.store.proofs.Choice.{and-none, true-false}
+use Rattle.rules.proofs.Choice.{and-none, true-false}
 use Rattle.examine.specs.declared.Met.{Met}
 use Rattle.examine.specs.declared.Met.the-variants.{Unqueued, Dropped, Opened, Dead as MetDead}
 use Rattle.rules.specs.declared.Best.{Best}
 use Rattle.rules.specs.declared.Out.{Out}
-use Rattle.rules.specs.declared.Out.the-variants.{Dead as DeadClause, Choose}
-use Rattle.rules.specs.declared.Seen.{Seen}
-use Rattle.rules.specs.declared.Seen.the-variants.{Shut, Open, Gone}
+use Rattle.rules.specs.declared.Out.the-variants.{Choose}
 use Rattle.proposal.specs.declared.decide_queue.Walked.{Walked}
 use Rattle.proposal.specs.declared.decide_queue.Weighed.the-variants.{On, Enough, Fatal}
+use Rattle.rules.specs.declared.Finding.{Finding}
+use Rattle.rules.specs.declared.Finding.the-variants.{Shut, Open}
+use Rattle.rules.specs.declared.Out.the-variants as out
+use Rattle.rules.specs.declared.Finding.the-variants as finding
 
 -- the clauses from a rank on
 pub ranks-next : (k n : ℕ) → k < n → ranksFrom k (n - k) ≡ k ∷ ranksFrom (k + 1) (n - (k + 1))
@@ -42,7 +44,7 @@ abbrev pub turned : Environment → Out → ℕ → ℕ → Met → Walked
 turned e y k d Unqueued = soFar y d
 turned e y k d Dropped = soFar y (suc d)
 turned e y k d (Opened x n m) = soFar (Choose (bestOf e y (best e k x n m))) d
-turned e y k d MetDead = soFar (DeadClause (e .clauseId k)) d
+turned e y k d MetDead = soFar (out.Dead (e .clauseId k)) d
 
 -- one clause of the walk is a visit, where the walk examines it
 module _ (e : Environment) (y : Out) (d : ℕ) (s : List ℕ) (k : ℕ) where
@@ -50,11 +52,11 @@ module _ (e : Environment) (y : Out) (d : ℕ) (s : List ℕ) (k : ℕ) where
   unfolding metAt visited queuedTurn
   visit-turn h = rw h (go (markOf s k) (seenAt s k))
     where
-      go : (m : Bool) (v : Seen) → cond (m && true) (examined wordOperations e (ended (soFar y d) s) k v) (ended (soFar y d) s) ≡ ended (turned e y k d (metBy m v)) (visitedBy m v s (filled s k) (dropped (filled s k) k))
+      go : (m : Bool) (v : Finding) → cond (m && true) (examined wordOperations e (ended (soFar y d) s) k v) (ended (soFar y d) s) ≡ ended (turned e y k d (metBy m v)) (visitedBy m v s (filled s k) (dropped (filled s k) k))
       go false v = refl
       go true Shut = refl
       go true (Open x n m) = refl
-      go true Gone = refl
+      go true finding.Dead = refl
 
   -- and nothing, where it does not
   pub pass-turn : examines e y k ≡ false → queuedTurn wordOperations e (ended (soFar y d) s) k ≡ ended (soFar y d) s
@@ -82,7 +84,7 @@ module _ (s : List ℕ) (b : Best) (k : ℕ) (d : ℕ) where
           let g : y ≡ x = cc in
           rw (e, ← l, g)
 
-      go : (m t p : Bool) (v : Seen) → weighBy m t p (metBy m v) b (λ x n m. better (envOf s .rule) b (best (envOf s) k x n m)) ≡ On c x →
+      go : (m t p : Bool) (v : Finding) → weighBy m t p (metBy m v) b (λ x n m. better (envOf s .rule) b (best (envOf s) k x n m)) ≡ On c x →
           cond (m && not (t || p)) (examined wordOperations (envOf s) (ended (choosing b d) s) k v) (ended (choosing b d) s)
           ≡ ended (choosing c (d + x)) (cond m (cond t s (cond p s (visitedBy m v s (filled s k) (dropped (filled s k) k)))) s)
       go false t p v z = told b 0 d s (add-zero d) z
@@ -90,25 +92,25 @@ module _ (s : List ℕ) (b : Best) (k : ℕ) (d : ℕ) where
       go true false true v z = told b 0 d s (add-zero d) z
       go true false false Shut z = told b 1 (suc d) (dropped (filled s k) k) (add-one d) z
       go true false false (Open y n m) z = told (better (envOf s .rule) b (best (envOf s) k y n m)) 0 d (filled s k) (add-zero d) z
-      go true false false Gone z = cc
+      go true false false finding.Dead z = cc
 
   pub second-enough : weighOf s b k ≡ Enough → (stopsAt s b ≡ true) × (weighed s b k ≡ s)
   unfolding weighOf weighed metAt
   second-enough h = go (markOf s k) (stopsAt s b) (passedAt s b k) (seenAt s k) refl h
     where
-      go : (m t p : Bool) (v : Seen) → stopsAt s b ≡ t → weighBy m t p (metBy m v) b (λ x n m. better (envOf s .rule) b (bestAt s k x n m)) ≡ Enough → (stopsAt s b ≡ true) × (cond m (cond t s (cond p s (visited s k))) s ≡ s)
+      go : (m t p : Bool) (v : Finding) → stopsAt s b ≡ t → weighBy m t p (metBy m v) b (λ x n m. better (envOf s .rule) b (bestAt s k x n m)) ≡ Enough → (stopsAt s b ≡ true) × (cond m (cond t s (cond p s (visited s k))) s ≡ s)
       go false t p v h z = absurd (true-false (cc))
       go true true p v h z = (h, refl)
       go true false true v h z = absurd (true-false (cc))
       go true false false Shut h z = absurd (true-false (cc))
       go true false false (Open y n m) h z = absurd (true-false (cc))
-      go true false false Gone h z = absurd (true-false (cc))
+      go true false false finding.Dead h z = absurd (true-false (cc))
 
   pub second-fatal : weighOf s b k ≡ Fatal → queuedTurn wordOperations (envOf s) (ended (choosing b d) s) k ≡ ended (dying (envOf s .clauseId k) d) (weighed s b k)
   unfolding weighOf weighed stopsAt passedAt bestAt metAt visited queuedTurn
   second-fatal h = go (markOf s k) (stopsAt s b) (passedAt s b k) (seenAt s k) h
     where
-      go : (m t p : Bool) (v : Seen) → weighBy m t p (metBy m v) b (λ x n m. better (envOf s .rule) b (best (envOf s) k x n m)) ≡ Fatal →
+      go : (m t p : Bool) (v : Finding) → weighBy m t p (metBy m v) b (λ x n m. better (envOf s .rule) b (best (envOf s) k x n m)) ≡ Fatal →
           cond (m && not (t || p)) (examined wordOperations (envOf s) (ended (choosing b d) s) k v) (ended (choosing b d) s)
           ≡ ended (dying (envOf s .clauseId k) d) (cond m (cond t s (cond p s (visitedBy m v s (filled s k) (dropped (filled s k) k)))) s)
       go false t p v z = cc
@@ -116,4 +118,4 @@ module _ (s : List ℕ) (b : Best) (k : ℕ) (d : ℕ) where
       go true false true v z = cc
       go true false false Shut z = cc
       go true false false (Open y n m) z = cc
-      go true false false Gone z = refl
+      go true false false finding.Dead z = refl

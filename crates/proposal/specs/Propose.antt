@@ -17,10 +17,11 @@ use Rattle.store.specs.Refusals.{deadClause, notSynced}
 use Rattle.store.specs.Row.{Row, Test, _if_, answerIn, answerOn, leftIn, leftOn}
 use Rattle.rules.specs.declared.Best.{Best}
 use Rattle.rules.specs.declared.Out.{Out}
-use Rattle.rules.specs.declared.Out.the-variants.{Nothing, Dead as DeadClause, Choose}
+use Rattle.rules.specs.declared.Out.the-variants.{Nothing, Choose}
 use Rattle.proposal.specs.declared.Proposal.{Proposal}
 use Rattle.proposal.specs.declared.Proposal.the-variants.{Choose as Chosen, Nothing as NoneOpen, Dead as DeadAt, Refused}
 use Rattle.proposal.specs.declared.decide_queue.Walked.{Walked}
+use Rattle.rules.specs.declared.Out.the-variants as out
 
 -- the whole walk
 unfoldable pub answer : List ℕ → Answer (List ℕ)
@@ -36,7 +37,7 @@ choosing b d = soFar (Choose b) d
 
 -- at a dead clause of this id
 abbrev pub dying : ℕ → ℕ → Walked
-dying id d = soFar (DeadClause id) d
+dying id d = soFar (out.Dead id) d
 
 -- an end of the walk with the words that it leaves
 abbrev pub ended : Walked → List ℕ → Answer (List ℕ)
@@ -58,7 +59,7 @@ pub record Sane (w : List ℕ) (o : Out) : Type 0 where
 -- "nothing" and refusal 8 carry that number too"
 abbrev pub told : List ℕ → Out → ℕ → Proposal
 told w Nothing d = NoneOpen d
-told w (DeadClause c) d = DeadAt c d
+told w (out.Dead c) d = DeadAt c d
 told w (Choose b) d = Chosen (b .candidate) (ofClause clauseParents w (b .clause)) (ofClause clauseIds w (b .clause)) (ofBits binary32 (b .activity)) (b .count) d
 
 -- on a store of sound shape

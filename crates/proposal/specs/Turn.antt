@@ -5,16 +5,16 @@ use Prim.Native.Nat.{ℕ, zero, suc, _+_, _≤_, _<_}
 use lib.Dec.{eqb}
 use Rattle.evaluate.specs.Standing.{envOf, markOf, ofClause}
 use Rattle.examine.specs.Cache.{metAt, visited}
-use Rattle.rules.specs.Walk.{best, better, isHot, largest, narrow, passedOver, stops}
+use Rattle.rules.specs.Walk.{best, better, isHot, largest, narrow, passedOver, stops, root}
 use Rattle.store.specs.Area.{at}
-use Rattle.store.specs.Codes.{root}
 use Rattle.store.specs.Layout.{clauseCount, clauseParents}
-use Rattle.store.specs.Limits.{names, lastActivity}
+use Rattle.store.specs.Limits.{names}
 use Rattle.examine.specs.declared.Met.{Met}
 use Rattle.examine.specs.declared.Met.the-variants.{Unqueued, Dropped, Opened, Dead as MetDead}
 use Rattle.rules.specs.declared.Best.{Best}
 use Rattle.proposal.specs.declared.decide_queue.Weighed.{Weighed}
 use Rattle.proposal.specs.declared.decide_queue.Weighed.the-variants.{On, Enough, Fatal}
+use Rattle.rules.specs.Activity.{lastActivity}
 
 -- "It is hot if a name of its version sets is hot"
 unfoldable pub hotAt : List ℕ → ℕ → Bool

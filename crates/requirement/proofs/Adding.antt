@@ -11,7 +11,7 @@ use lib.Dec.{leb, eqb}
 use lib.ListN.{length, getD, drop, drop-of-length-le}
 use lib.Seq.{drop-cons}
 use Rattle.requirement.specs.Load.{adds, total, putLists}
-use Rattle.store.proofs.Choice.{both}
+use Rattle.rules.proofs.Choice.{both}
 use Rattle.store.specs.Area.{at, put}
 use Rattle.store.specs.Layout.{listStarts, listLengths}
 

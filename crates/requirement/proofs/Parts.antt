@@ -15,7 +15,7 @@ use Rattle.requirement.proofs.Views.{listed-sets}
 use Rattle.requirement.specs.Part.{areaOf, inPart, partOf, Named, singleArea, unionArea, areaFrom, areaTo, placeOf}
 use Rattle.requirement.specs.Tables.{keyOf, firstSlot, setCount, listCount, cellsOf}
 use Rattle.store.proofs.AreaLaws.{length-area, part-of-take}
-use Rattle.store.proofs.Choice.{eq-or}
+use Rattle.rules.proofs.Choice.{eq-or}
 use Rattle.store.specs.Area.{area, at}
 use Rattle.store.specs.Layout.{unionSizes, listStarts, listLengths, singleCells, unionCells, candidates}
 use Rattle.store.specs.Limits.{versionSets, unionRoom, cellRoom, requirements, lists, mostUnionSize}

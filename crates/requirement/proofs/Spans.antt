@@ -9,7 +9,7 @@ use native.Mathlib.Omega.{arith}
 use borrow.Author.Tests.{leb-true, eqb-true, le-leb}
 use lib.Dec.{leb, eqb}
 use Rattle.store.proofs.AreaLaws.{at-past, at-inside}
-use Rattle.store.proofs.Choice.{both, eq-or, lt-or}
+use Rattle.rules.proofs.Choice.{both, eq-or, lt-or}
 use Rattle.store.specs.Area.{at}
 use Rattle.store.specs.Layout.{listStarts, listLengths, singleCells, singleStarts, singleLengths, unionStarts, unionLengths}
 use Rattle.store.specs.Limits.{versionSets, unions, cellRoom, unionLists}

@@ -11,7 +11,9 @@ use lib.ListN.{length, getD, take, drop, length-drop}
 use lib.Seq.{getD-drop}
 use Rattle.requirement.proofs.ListParts.{same-run, run-is}
 use Rattle.requirement.specs.Load.{total, cut}
-use Rattle.requirement.specs.Tables.{setCount, listCount, setOf, cellsOf, listsFrom}
+use Rattle.requirement.specs.Tables.{setCount, listCount, setOf, cellsOf}
+use Rattle.rules.proofs.Froms.{from-agree}
+use Rattle.rules.specs.Numbers.{from}
 use Rattle.store.proofs.AreaLaws.{length-area}
 use Rattle.store.specs.Area.{area, at}
 use Rattle.store.specs.Layout.{unionSets, tablesLoaded, listStarts, listLengths, candidates, words}
@@ -29,21 +31,16 @@ cells-kept w s slot long size e f h =
     rw (e, f)
     (same-run _ _ (area candidates s) (area candidates w) (length-area candidates s (omega arith) ∙ sym (length-area candidates w (omega arith))) h)
 
-pub lists-kept : (w s : List ℕ) (slot n : ℕ) → ((j : ℕ) → j < n → cellsOf s (slot + j) ≡ cellsOf w (slot + j)) → listsFrom s slot n ≡ listsFrom w slot n
-unfolding listsFrom
-lists-kept w s slot zero f = refl
-lists-kept w s slot (suc n) f =
-    let a : cellsOf s slot ≡ cellsOf w slot = rw (add-zero slot) at (f 0 (omega arith)) in
-    let b =
-    lists-kept w s (slot + 1) n
-    (λ j h.
-    let e : slot + 1 + j ≡ slot + suc j = omega arith in
-    rw e (f (suc j) (omega arith))) in
-    rw (a, b)
+pub lists-kept : (w s : List ℕ) (slot n : ℕ) → ((j : ℕ) → j < n → cellsOf s (slot + j) ≡ cellsOf w (slot + j)) → from (cellsOf s) slot n ≡ from (cellsOf w) slot n
+lists-kept w s slot n f =
+    from-agree (cellsOf s) (cellsOf w) slot n
+    (λ k a b.
+    let e : slot + (k - slot) ≡ k = omega arith in
+    rw e at (f (k - slot) (omega arith)))
 
 -- lists that lie one after the other are the cut of their cells
-pub lists-are : (s : List ℕ) (slot place : ℕ) (ls cs : List ℕ) → words ≤ length s → total ls ≡ length cs → place + length cs ≤ cellRoom → ((j : ℕ) → j < length ls → at listStarts (slot + j) s ≡ place + total (take j ls)) → ((j : ℕ) → j < length ls → at listLengths (slot + j) s ≡ getD ls j 0) → ((i : ℕ) → i < length cs → at candidates (place + i) s ≡ getD cs i 0) → listsFrom s slot (length ls) ≡ cut ls cs
-unfolding listsFrom cut total
+pub lists-are : (s : List ℕ) (slot place : ℕ) (ls cs : List ℕ) → words ≤ length s → total ls ≡ length cs → place + length cs ≤ cellRoom → ((j : ℕ) → j < length ls → at listStarts (slot + j) s ≡ place + total (take j ls)) → ((j : ℕ) → j < length ls → at listLengths (slot + j) s ≡ getD ls j 0) → ((i : ℕ) → i < length cs → at candidates (place + i) s ≡ getD cs i 0) → from (cellsOf s) slot (length ls) ≡ cut ls cs
+unfolding from cut total
 lists-are s slot place [] cs long sum room f g h = refl
 lists-are s slot place (n ∷ ns) cs long sum room f g h =
     let shorter = length-drop n cs in

@@ -4,6 +4,7 @@ use mathlib.Core.List.{List, [], _∷_}
 use Prim.Native.Nat.{ℕ, zero, suc, _+_, _-_, _*_}
 use lib.Dec.{ltb, eqb}
 use lib.ListN.{take, drop, set}
+use Rattle.rules.specs.Numbers.{from}
 use Rattle.store.specs.Area.{area, at}
 use Rattle.store.specs.Codes.{singleKind}
 use Rattle.store.specs.Layout.{setNames, unionSizes, unionSets, tablesLoaded, listStarts, listLengths, candidates}
@@ -48,11 +49,6 @@ nameOf w set = at setNames set w - 1
 unfoldable pub cellsOf : List ℕ → ℕ → List ℕ
 cellsOf w slot = take (at listLengths slot w) (drop (at listStarts slot w) (area candidates w))
 
--- n lists, one after the other
-unfoldable pub listsFrom : List ℕ → ℕ → ℕ → List (List ℕ)
-listsFrom w slot zero = []
-listsFrom w slot (suc n) = cellsOf w slot ∷ listsFrom w (slot + 1) n
-
 -- the lists of a requirement
 abbrev pub listsOf : List ℕ → ℕ → List (List ℕ)
-listsOf w key = listsFrom w (firstSlot key) (listCount w key)
+listsOf w key = from (cellsOf w) (firstSlot key) (listCount w key)

@@ -12,7 +12,8 @@ ghost use Rattle.store.specs.Shape.{lies, Sound};
 ghost use Rattle.requirement.specs.Copy.{tabled, copyIn, copyInLengths, copyInCells};
 ghost use Rattle.requirement.specs.Load.{adds, total, known, fitting, Roomy, loadIn, putLists, tableAt, loadedSingle, loadedUnion, loaded, loadInStore};
 ghost use Rattle.requirement.specs.Part.{inPart, partOf, Named, singleArea, unionArea, areaFrom, areaTo, placeOf};
-ghost use Rattle.requirement.specs.Tables.{requirementOf, keyOf, keyAt, firstSlot, setCount, setOf, nameOf, listCount, cellsOf, listsFrom};
+ghost use Rattle.requirement.specs.Tables.{requirementOf, keyOf, keyAt, firstSlot, setCount, setOf, nameOf, listCount, cellsOf};
+ghost use Rattle.rules.specs.Numbers.{from};
 use crate::Copied;
 use crate::Loaded;
 use crate::Requirement;
@@ -334,7 +335,7 @@ pub fn list_count(s: &[u32], key: usize) -> usize
 // How many cells its first n lists have.
 fn cell_count(s: &[u32], r: Requirement, n: usize) -> usize
     requires { ⌜ (Sound (now s)) × (Named r) × (n ≤ listCount (now s) (keyOf r)) ⌝ }
-    ensures { λ x. ⌜ x ≡ length (joined (listsFrom (now (s .entry)) (firstSlot (keyOf r)) n)) ⌝ }
+    ensures { λ x. ⌜ x ≡ length (joined (from (cellsOf (now (s .entry))) (firstSlot (keyOf r)) n)) ⌝ }
 {
     let mut sum: usize = 0;
     let mut j: usize = 0;
@@ -349,7 +350,7 @@ fn cell_count(s: &[u32], r: Requirement, n: usize) -> usize
 // Copies the lengths of its first n lists, one after the other.
 fn copy_lengths(s: &[u32], r: Requirement, n: usize, lengths: &mut [u32])
     requires { ⌜ (Sound (now s)) × (Named r) × (n ≤ listCount (now s) (keyOf r)) × (n ≤ length (now lengths)) ⌝ }
-    ensures { λ _. ⌜ now (lengths .exit) ≡ putRun (record { base = 0; size = length (now (lengths .entry)) }) 0 (lengthsOf (listsFrom (now (s .entry)) (firstSlot (keyOf r)) n)) (now (lengths .entry)) ⌝ }
+    ensures { λ _. ⌜ now (lengths .exit) ≡ putRun (record { base = 0; size = length (now (lengths .entry)) }) 0 (lengthsOf (from (cellsOf (now (s .entry))) (firstSlot (keyOf r)) n)) (now (lengths .entry)) ⌝ }
 {
     let mut j: usize = 0;
     while j < n {
@@ -361,8 +362,8 @@ fn copy_lengths(s: &[u32], r: Requirement, n: usize, lengths: &mut [u32])
 
 // Copies their cells, one after the other.
 fn copy_cells(s: &[u32], r: Requirement, n: usize, cells: &mut [u32])
-    requires { ⌜ (Sound (now s)) × (Named r) × (n ≤ listCount (now s) (keyOf r)) × (length (joined (listsFrom (now s) (firstSlot (keyOf r)) n)) ≤ length (now cells)) ⌝ }
-    ensures { λ _. ⌜ now (cells .exit) ≡ putRun (record { base = 0; size = length (now (cells .entry)) }) 0 (joined (listsFrom (now (s .entry)) (firstSlot (keyOf r)) n)) (now (cells .entry)) ⌝ }
+    requires { ⌜ (Sound (now s)) × (Named r) × (n ≤ listCount (now s) (keyOf r)) × (length (joined (from (cellsOf (now s)) (firstSlot (keyOf r)) n)) ≤ length (now cells)) ⌝ }
+    ensures { λ _. ⌜ now (cells .exit) ≡ putRun (record { base = 0; size = length (now (cells .entry)) }) 0 (joined (from (cellsOf (now (s .entry))) (firstSlot (keyOf r)) n)) (now (cells .entry)) ⌝ }
 {
     let room = cells.len();
     let mut place: usize = 0;

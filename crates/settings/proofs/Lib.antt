@@ -1,3 +1,2 @@
-pub mod FloatOrder
 pub mod Kept
 pub mod Leaving

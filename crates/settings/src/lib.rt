@@ -4,7 +4,6 @@ ghost use Rattle.settings.specs.Settings.{hotOut, hotStore, activityOut,
 use store::refusals;
 use store::shape;
 
-pub mod activity;
 pub mod tuning;
 
 // The answer of a call that changes a setting.

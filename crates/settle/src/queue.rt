@@ -2,8 +2,8 @@
 use proposal::Proposal;
 use script::names;
 use script::say;
-use settings::activity;
-use settings::activity::Admitted;
+use rules::activity;
+use rules::activity::Admitted;
 use store::limits::WORD_ROOM;
 use sync::Synced;
 

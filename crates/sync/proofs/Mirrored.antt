@@ -6,7 +6,6 @@ use native.Mathlib.Nat.{zero-add}
 use native.Mathlib.Omega.{arith}
 use lib.ListN.{length, take, drop}
 use Rattle.evaluate.specs.Standing.{entryAt, trailOf, mirrorOf, storeOf}
-use Rattle.evaluate.specs.View.{from}
 use Rattle.rules.specs.Store.{touched}
 use Rattle.rules.specs.Sync.{variables}
 use Rattle.store.proofs.AreaLaws.{area-kept}
@@ -18,6 +17,7 @@ use Rattle.store.specs.Shape.{Sound}
 use Rattle.evaluate.proofs.Froms.{area-from, drop-from, from-agree, from-append, from-same, getD-from, length-mirror, length-trail, take-from}
 use Rattle.sync.proofs.Kept.{length-new, copies-fit, mirrored-at, new-length, mirrored-sound}
 use Rattle.sync.specs.Sync.{wordsFrom, oldEntries, newEntries, touchedIn, touchesIn, copiedWords, mirroredWords}
+use Rattle.rules.specs.Numbers.{from}
 
 variables-from : (w : List ℕ) (i n : ℕ) → variables (from (entryAt w) i n) ≡ from (λ k. at trailVariables k w) i n
 unfolding variables from entryAt

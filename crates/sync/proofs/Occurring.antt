@@ -7,17 +7,17 @@ use Prim.Native.Nat.{ℕ, _+_, _-_, _≤_, _<_}
 use native.Mathlib.Omega.{arith}
 use borrow.Author.Tests.{eq-eqb, ne-eqb}
 use Rattle.evaluate.proofs.Turns.{from-begin, from-next, from-done}
-use Rattle.evaluate.specs.View.{run, from, listAt, listsAt, literalAt, literalsAt}
+use Rattle.evaluate.specs.View.{run, listAt, listsAt, literalAt, literalsAt}
 use Rattle.requirement.specs.Tables.{firstSlot, listCount, cellsOf}
-use Rattle.rules.specs.Sweep.{touches}
-use Rattle.rules.specs.Sync.{meets}
+use Rattle.rules.specs.Sync.{meets, mentions}
 use Rattle.rules.specs.Walk.{Literal, CandidateList, flattened, member}
-use Rattle.store.proofs.Choice.{or-assoc}
+use Rattle.rules.proofs.Choice.{or-assoc}
 use Rattle.store.specs.Area.{at}
 use Rattle.store.specs.Layout.{candidates, disjunctionStarts, disjunctionSizes, literalVariables}
 use Rattle.store.specs.Limits.{cellRoom}
 use Rattle.store.specs.Shape.{Sound}
 use Rattle.evaluate.proofs.Froms.{area-from}
+use Rattle.rules.specs.Numbers.{from}
 
 -- one of a list passes a test
 unfoldable pub anyOf : {A : Type 0} → (A → Bool) → List A → Bool
@@ -39,8 +39,8 @@ unfolding anyOf meets
 cells-any W [] = refl
 cells-any W (v ∷ vs) = rw (cells-any W vs)
 
-pub literals-any : (W : List ℕ) (ls : List Literal) → anyOf (literalTouched W) ls ≡ touches W ls
-unfolding anyOf touches
+pub literals-any : (W : List ℕ) (ls : List Literal) → anyOf (literalTouched W) ls ≡ mentions W ls
+unfolding anyOf mentions
 literals-any W [] = refl
 literals-any W (l ∷ ls) = rw (literals-any W ls)
 
@@ -99,15 +99,15 @@ requirement-lists W w key t n p q = rw (p, q)
 
 -- the literals of a condition
 module _ (W w : List ℕ) (c : ℕ) where
-  pub absent-untouched : c ≡ 0 → false ≡ touches W (literalsAt w c)
-  unfolding literalsAt touches
+  pub absent-untouched : c ≡ 0 → false ≡ mentions W (literalsAt w c)
+  unfolding literalsAt mentions
   absent-untouched h = rw (eq-eqb c 0 h)
 
   module _ (d size : ℕ) (h : c ≢ 0) (e : d ≡ c - 1) (q : size ≡ at disjunctionSizes d w) where
-    pub unloaded-untouched : size ≡ 0 → false ≡ touches W (literalsAt w c)
-    unfolding literalsAt touches from
+    pub unloaded-untouched : size ≡ 0 → false ≡ mentions W (literalsAt w c)
+    unfolding literalsAt mentions from
     unloaded-untouched z = rw (ne-eqb c 0 h, ← e, ← q, z)
 
-    pub literals-touched : (place : ℕ) → place ≡ at disjunctionStarts d w → touches W (from (literalAt w) place (size - 1)) ≡ touches W (literalsAt w c)
+    pub literals-touched : (place : ℕ) → place ≡ at disjunctionStarts d w → mentions W (from (literalAt w) place (size - 1)) ≡ mentions W (literalsAt w c)
     unfolding literalsAt
     literals-touched place p = rw (ne-eqb c 0 h, ← e, ← p, ← q)

@@ -6,7 +6,6 @@ use lib.Dec.{T}
 use lib.ListN.{take, drop}
 use Rattle.evaluate.proofs.Frames.{env-same, assigned-same, queue-same, trail-same, mirror-same}
 use Rattle.evaluate.specs.Standing.{envOf, queueOf, trailOf, mirrorOf, storeOf}
-use Rattle.evaluate.specs.View.{assigned}
 use Rattle.rules.specs.Store.{sync, touched}
 use Rattle.rules.specs.Sync.{value, variables, routes}
 use Rattle.store.specs.Area.{Area, at, apart}
@@ -17,7 +16,8 @@ use Rattle.evaluate.proofs.Froms.{length-trail}
 use Rattle.sync.proofs.Mirrored.{touched-is, mirror-is, trail-kept}
 use Rattle.sync.proofs.Swept.{sweep-is}
 use Rattle.sync.specs.Sync.{touchedIn, sweptWords, mirroredWords, syncInStore}
-use Rattle.trail.specs.declared.Value.{Value}
+use Rattle.rules.specs.declared.Value.{Value}
+use Rattle.trail.specs.Assignment.{assigned}
 
 -- SYNC
 module _ (w : List ℕ) (h : Sound w) where

@@ -9,7 +9,7 @@ use native.Mathlib.Omega.{arith}
 use lib.Dec.{T}
 use lib.ListN.{length}
 use Rattle.store.proofs.AreaLaws.{length-put, at-put-same, at-put-else, area-kept}
-use Rattle.store.proofs.Choice.{eq-or}
+use Rattle.rules.proofs.Choice.{eq-or}
 use Rattle.store.proofs.Soundness.{untied, sound-put}
 use Rattle.store.specs.Area.{Area, area, at, put, Fits, apart, _upto_}
 use Rattle.store.specs.Layout.{table}

@@ -8,16 +8,15 @@ use native.Mathlib.Omega.{arith}
 use borrow.Author.Tests.{lt-ltb, le-ltb}
 use lib.Dec.{T, ltb, eqb}
 use Rattle.evaluate.specs.Standing.{ofClause, envOf, cacheBy, cacheOf, markOf, queueOf}
-use Rattle.evaluate.specs.View.{assigned, listsAt}
+use Rattle.evaluate.specs.View.{listsAt}
 use Rattle.rules.proofs.Sweeps.{routes-swept}
-use Rattle.rules.specs.Sweep.{spoiled}
-use Rattle.rules.specs.Sync.{routes}
+use Rattle.rules.specs.Sync.{routes, spoiled, spoils}
 use Rattle.rules.specs.Walk.{CandidateList}
 use Rattle.rules.specs.declared.Cache.{Cache}
 use Rattle.rules.specs.declared.Cache.the-variants.{Dirty, Known}
-use Rattle.rules.specs.declared.State.the-variants.{Satisfied, Frontier, Dead}
+use Rattle.rules.specs.declared.State.the-variants.{Satisfied, Frontier}
 use Rattle.store.proofs.AreaLaws.{at-past}
-use Rattle.store.proofs.Choice.{lt-or, or-none, or-true}
+use Rattle.rules.proofs.Choice.{lt-or, or-none, or-true}
 use Rattle.store.specs.Area.{Area, at, apart}
 use Rattle.store.specs.Layout.{queued, cacheStates, cacheCandidates, cacheNames, cacheCounts, map, clauseCount, environmentRegion}
 use Rattle.store.specs.Limits.{requirements}
@@ -25,8 +24,10 @@ use Rattle.store.specs.Shape.{Sound}
 use Rattle.sync.proofs.Kept.{few, woken-length, woken-area, spoiled-area, swept-area}
 use Rattle.sync.proofs.Sweeping.{at-sweep}
 use Rattle.sync.proofs.Tests.{none-wakes, cache-kept, spoils-kept}
-use Rattle.sync.specs.Sync.{wakesAt, spoilsBy, spoilsAt, wokenWords, spoiledWords, sweptWords}
-use Rattle.trail.specs.declared.Value.{Value}
+use Rattle.sync.specs.Sync.{wakesAt, spoilsAt, wokenWords, spoiledWords, sweptWords}
+use Rattle.rules.specs.declared.Value.{Value}
+use Rattle.trail.specs.Assignment.{assigned}
+use Rattle.rules.specs.declared.State.the-variants as state
 
 -- a cache whose state word becomes 0 is dirty
 cache-zero : (a b c : ℕ) → cacheBy 0 a b c ≡ Dirty
@@ -79,11 +80,11 @@ module _ (w W : List ℕ) (h : Sound w) where
       at-sweep cacheStates (spoilsAt (wokenWords w W) W) 0 (wokenWords w W) (omega (arith, woken-length w W h, h .long)) key requirements (omega arith) l
       ∙ rw (spoils-first key, woken-area w W h cacheStates tt)
 
-  spoiled-by : (a : ℕ → Value) (cs : List CandidateList) (m : Cache) → cond (spoilsBy a W cs m) Dirty m ≡ spoiled a W cs m
+  spoiled-by : (a : ℕ → Value) (cs : List CandidateList) (m : Cache) → cond (spoils a W cs m) Dirty m ≡ spoiled a W cs m
   spoiled-by a cs Dirty = refl
   spoiled-by a cs (Known (Satisfied x)) = refl
   spoiled-by a cs (Known (Frontier x n m)) = refl
-  spoiled-by a cs (Known Dead) = refl
+  spoiled-by a cs (Known state.Dead) = refl
 
   other : (b : Area) → T (apart b queued) → T (apart b cacheStates) → (i : ℕ) → at b i (sweptWords w W) ≡ at b i w
   unfolding sweptWords at

@@ -9,21 +9,22 @@ use native.Mathlib.Omega.{arith}
 use borrow.Author.Tests.{lt-ltb, le-ltb}
 use Rattle.evaluate.proofs.Frames.{lists-same, env-same, assigned-same}
 use Rattle.evaluate.specs.Standing.{ofClause, envOf, cacheOf, markOf, queueOf}
-use Rattle.evaluate.specs.View.{assigned, listsAt, literalsAt}
+use Rattle.evaluate.specs.View.{listsAt, literalsAt}
 use Rattle.rules.proofs.Sweeps.{meets-same, touches-same, broken-same}
-use Rattle.rules.specs.Sweep.{touches, woken}
-use Rattle.rules.specs.Sync.{meets}
+use Rattle.rules.specs.Sync.{meets, mentions, woken, spoils}
 use Rattle.rules.specs.Walk.{Environment, CandidateList, flattened, isTrue, member}
 use Rattle.rules.specs.declared.Cache.{Cache}
 use Rattle.rules.specs.declared.Cache.the-variants.{Dirty, Known}
-use Rattle.rules.specs.declared.State.the-variants.{Satisfied, Frontier, Dead}
+use Rattle.rules.specs.declared.State.the-variants.{Satisfied, Frontier}
 use Rattle.evaluate.proofs.Records.{clause-word, cache-dirty, cache-satisfied, cache-frontier}
-use Rattle.store.proofs.Choice.{eq-or}
+use Rattle.rules.proofs.Choice.{eq-or}
 use Rattle.store.specs.Area.{area, at}
 use Rattle.store.proofs.AreaLaws.{area-same}
 use Rattle.store.specs.Layout.{cacheStates, cacheCandidates, cacheNames, cacheCounts, map, clauseCount, clauseParents, clauseRequirements, clauseConditions, environmentRegion, tablesRegion}
-use Rattle.sync.specs.Sync.{brokenAt, wakesAt, spoilsBy, spoilsAt}
-use Rattle.trail.specs.declared.Value.{Value}
+use Rattle.sync.specs.Sync.{brokenAt, wakesAt, spoilsAt}
+use Rattle.rules.specs.declared.Value.{Value}
+use Rattle.trail.specs.Assignment.{assigned}
+use Rattle.rules.specs.declared.State.the-variants as state
 
 -- what a cache's state word says
 module _ (w : List ℕ) (key state : ℕ) (is : state ≡ at cacheStates key w) where
@@ -73,7 +74,7 @@ module _ (w W : List ℕ) (k : ℕ) where
 
   module _ (h : k < at clauseCount 0 w) (parent : ℕ) (p : parent ≡ at clauseParents k w) where
     abbrev rest : Bool
-    rest = touches W (literalsAt w (at clauseConditions k w)) || brokenAt w W (at clauseRequirements k w)
+    rest = mentions W (literalsAt w (at clauseConditions k w)) || brokenAt w W (at clauseRequirements k w)
 
     wakes-is : wakesAt w W k ≡ isTrue (assigned w parent) && (member parent W || rest)
     unfolding wakesAt brokenAt
@@ -87,10 +88,10 @@ module _ (w W : List ℕ) (k : ℕ) where
       wakes-by-parent m = sym (wakes-is ∙ rw (t, m))
 
       module _ (m : member parent W ≡ false) (condition : ℕ) (c : condition ≡ at clauseConditions k w) where
-        pub wakes-by-condition : touches W (literalsAt w condition) ≡ true → true ≡ wakesAt w W k
+        pub wakes-by-condition : mentions W (literalsAt w condition) ≡ true → true ≡ wakesAt w W k
         wakes-by-condition u = sym (wakes-is ∙ rw (t, m, ← c, u))
 
-        pub wakes-by-cache : touches W (literalsAt w condition) ≡ false → (key : ℕ) → key ≡ at clauseRequirements k w → brokenAt w W key ≡ wakesAt w W k
+        pub wakes-by-cache : mentions W (literalsAt w condition) ≡ false → (key : ℕ) → key ≡ at clauseRequirements k w → brokenAt w W key ≡ wakesAt w W k
         wakes-by-cache u key q = sym (wakes-is ∙ rw (t, m, ← c, u, q))
 
 -- IN OTHER WORDS that have the same clauses, tables, assignment and cache
@@ -109,9 +110,9 @@ module _ (s w : List ℕ) (e : area environmentRegion s ≡ area environmentRegi
   pub spoils-kept : (key : ℕ) → cacheOf s key ≡ cacheOf w key → spoilsAt s W key ≡ spoilsAt w W key
   unfolding spoilsAt
   spoils-kept key q =
-      ap (λ (a : ℕ → Value). spoilsBy a W (listsAt s key) (cacheOf s key)) (assigned-same s w m)
-      ∙ ap (λ (cs : List CandidateList). spoilsBy (assigned w) W cs (cacheOf s key)) (lists-same s w (area-same tablesRegion environmentRegion s w tt e) key)
-      ∙ ap (spoilsBy (assigned w) W (listsAt w key)) q
+      ap (λ (a : ℕ → Value). spoils a W (listsAt s key) (cacheOf s key)) (assigned-same s w m)
+      ∙ ap (λ (cs : List CandidateList). spoils (assigned w) W cs (cacheOf s key)) (lists-same s w (area-same tablesRegion environmentRegion s w tt e) key)
+      ∙ ap (spoils (assigned w) W (listsAt w key)) q
 
 -- FOR OTHER LISTS of the same variables
 module _ (W U : List ℕ) (same : (v : ℕ) → member v W ≡ member v U) (w : List ℕ) where
@@ -131,8 +132,8 @@ module _ (W U : List ℕ) (same : (v : ℕ) → member v W ≡ member v U) (w : 
       here : meets W (flattened (listsAt w key)) ≡ meets U (flattened (listsAt w key))
       here = meets-same W U same (flattened (listsAt w key))
 
-      go : (m : Cache) → spoilsBy (assigned w) W (listsAt w key) m ≡ spoilsBy (assigned w) U (listsAt w key) m
+      go : (m : Cache) → spoils (assigned w) W (listsAt w key) m ≡ spoils (assigned w) U (listsAt w key) m
       go Dirty = refl
       go (Known (Satisfied x)) = rw here
       go (Known (Frontier x n c)) = here
-      go (Known Dead) = here
+      go (Known state.Dead) = here

@@ -10,7 +10,7 @@ use lib.Dec.{eqb}
 use lib.ListN.{length, getD, set, replicate, length-set, length-replicate, getD-replicate}
 use lib.Seq.{getD-set-same, getD-set-other}
 use Rattle.rules.specs.Walk.{member}
-use Rattle.store.proofs.Choice.{both, lt-or, or-none, or-true}
+use Rattle.rules.proofs.Choice.{both, lt-or, or-none, or-true}
 use Rattle.store.specs.Area.{Area, at}
 use Rattle.store.specs.Limits.{variables, lastVariable}
 use Rattle.store.specs.Shape.{every, upTo}

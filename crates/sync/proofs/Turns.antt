@@ -11,7 +11,7 @@ use lib.ListN.{length, getD}
 use Rattle.evaluate.specs.Standing.{cacheOf}
 use Rattle.rules.specs.Walk.{member}
 use Rattle.store.proofs.AreaLaws.{at-is, length-area, length-put, area-kept}
-use Rattle.store.proofs.Choice.{lt-or}
+use Rattle.rules.proofs.Choice.{lt-or}
 use Rattle.store.proofs.Counting.{every-at}
 use Rattle.store.specs.Area.{Area, area, at, put, putRun, Fits, apart}
 use Rattle.store.specs.Layout.{queued, cacheStates, cacheCandidates, cacheNames, cacheCounts, mirror, mirrorLength, syncFloor, trailLength, trailVariables, map, clauseCount, environmentRegion}

@@ -4,11 +4,11 @@ ghost use Prim.Native.Nat.{_+_, _≤_, _<_};
 ghost use Rattle.store.specs.Limits.{requirements, lists, cellRoom, disjunctions, literalRoom};
 ghost use Rattle.store.specs.Shape.{Sound};
 ghost use Rattle.requirement.specs.Tables.{cellsOf};
-ghost use Rattle.rules.specs.Sweep.{touches};
-ghost use Rattle.rules.specs.Sync.{meets};
+ghost use Rattle.rules.specs.Sync.{meets, mentions};
 ghost use Rattle.rules.specs.Walk.{flattened};
-ghost use Rattle.evaluate.specs.View.{run, from, listAt, listsAt, literalAt, literalsAt};
+ghost use Rattle.evaluate.specs.View.{run, listAt, listsAt, literalAt, literalsAt};
 ghost use Rattle.sync.specs.Table.{inTable};
+ghost use Rattle.rules.specs.Numbers.{from};
 use crate::table;
 use crate::table::PLACES;
 use requirement::candidates;
@@ -68,7 +68,7 @@ pub fn in_requirement(s: &[u32], t: &[bool; PLACES], key: usize) -> bool
 // Whether the variable of one of n literals is.
 fn in_literals(s: &[u32], t: &[bool; PLACES], start: usize, n: usize) -> bool
     requires { ⌜ (Sound (now s)) × (start + n ≤ literalRoom) ⌝ }
-    ensures { λ r. ⌜ r ≡ touches (inTable (now (t .entry))) (from (literalAt (now (s .entry))) start n) ⌝ }
+    ensures { λ r. ⌜ r ≡ mentions (inTable (now (t .entry))) (from (literalAt (now (s .entry))) start n) ⌝ }
 {
     let mut i: usize = 0;
     while i < n {
@@ -83,7 +83,7 @@ fn in_literals(s: &[u32], t: &[bool; PLACES], start: usize, n: usize) -> bool
 // Whether a variable of a condition is: 0 is none, else one more than the disjunction.
 pub fn in_condition(s: &[u32], t: &[bool; PLACES], condition: u32) -> bool
     requires { ⌜ (Sound (now s)) × (condition ≤ disjunctions) ⌝ }
-    ensures { λ r. ⌜ r ≡ touches (inTable (now (t .entry))) (literalsAt (now (s .entry)) condition) ⌝ }
+    ensures { λ r. ⌜ r ≡ mentions (inTable (now (t .entry))) (literalsAt (now (s .entry)) condition) ⌝ }
 {
     if condition == 0 {
         return false;

@@ -9,7 +9,7 @@ use borrow.Author.Tests.{le-leb, ne-eqb}
 use lib.Dec.{T}
 use lib.ListN.{length}
 use Rattle.store.proofs.AreaLaws.{length-put, at-put-same, at-put-else, area-kept, at-kept, within, at-same, apart-inside}
-use Rattle.store.proofs.Choice.{both, eq-or}
+use Rattle.rules.proofs.Choice.{both, eq-or}
 use Rattle.store.proofs.Runs.{area-run-kept}
 use Rattle.store.specs.Area.{Area, area, at, put, putRun, Fits, apart}
 use Rattle.store.specs.Layout.{mirrorLength, syncFloor, propagated, trailLength, map, listStarts, singleCells, unionCells, disjunctionStarts, disjunctionSizes, nodeLefts, nodeRights, singleStarts, singleLengths, unionStarts, unionLengths, words, region, tablesRegion}

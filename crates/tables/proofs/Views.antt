@@ -6,7 +6,7 @@ use Prim.Native.Nat.{ℕ, _<_}
 use native.Mathlib.Nat.{zero-add}
 use borrow.Author.Tests.{eqb-false, not-true}
 use lib.ListN.{length, getD}
-use Rattle.store.proofs.Loops.{all-at, all-of}
+use Rattle.rules.proofs.Loops.{all-at, all-of}
 use Rattle.tables.proofs.UnionLoading.{other-word}
 use Rattle.tables.specs.Union.{differ, newAt, distinct}
 

@@ -6,7 +6,7 @@ ghost use Rattle.store.specs.Area.{at};
 ghost use Rattle.store.specs.Layout.{words, literalCount};
 ghost use Rattle.store.specs.Limits.{disjunctions, literalRoom};
 ghost use Rattle.store.specs.Shape.{Sound};
-ghost use Rattle.tables.specs.Disjunction.{disjunctionLoaded, literalsOf, literalsFit, loadDisjunctionIn, literalsPut, loadDisjunctionInStore};
+ghost use Rattle.tables.specs.Disjunction.{disjunctionLoaded, literalsOf, literalsUnder, literalsFit, loadDisjunctionIn, literalsPut, loadDisjunctionInStore};
 use crate::Literals;
 use crate::Loaded;
 use store::areas;
@@ -42,6 +42,17 @@ pub fn literals_of(s: &[u32], disjunction: u32) -> Literals
         start,
         count: size - 1,
     }
+}
+
+// The literals of a condition as a clause stores it: 0 is none, else one more than the disjunction.
+pub fn literals_under(s: &[u32], condition: u32) -> Literals
+    requires { ⌜ (words ≤ length (now s)) × (condition ≤ disjunctions) ⌝ }
+    ensures { λ r. ⌜ r ≡ literalsUnder (now (s .entry)) condition ⌝ }
+{
+    if condition == 0 {
+        return Literals { start: 0, count: 0 };
+    }
+    literals_of(s, condition - 1)
 }
 
 // Whether each literal has a variable in range and a sign.

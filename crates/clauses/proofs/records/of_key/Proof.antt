@@ -1,5 +1,5 @@
 use borrow.Author.Needs.{needs}
-use Rattle.store.proofs.Choice.{tests}
+use Rattle.rules.proofs.Choice.{tests}
 use Rattle.clauses.proofs.records.of_key.Statement.{statement}
 use Rattle.clauses.proofs.records.of_key.Tie as tie
 

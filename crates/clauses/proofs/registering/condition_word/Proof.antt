@@ -1,6 +1,6 @@
 use borrow.Author.Needs.{needs}
 use Rattle.clauses.specs.Register.{conditionWord}
-use Rattle.store.proofs.Choice.{tests}
+use Rattle.rules.proofs.Choice.{tests}
 use Rattle.clauses.proofs.registering.condition_word.Statement.{statement}
 use Rattle.clauses.proofs.registering.condition_word.Tie as tie
 

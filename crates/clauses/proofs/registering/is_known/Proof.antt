@@ -1,7 +1,7 @@
 use borrow.Author.Needs.{needs}
 use borrow.Author.Tests.{ne-eqb}
 use Rattle.clauses.specs.Register.{knownCondition}
-use Rattle.store.proofs.Choice.{tests}
+use Rattle.rules.proofs.Choice.{tests}
 use Rattle.store.specs.Codes.{noCondition}
 use Rattle.clauses.proofs.registering.is_known.Statement.{statement}
 use Rattle.clauses.proofs.registering.is_known.Tie as tie

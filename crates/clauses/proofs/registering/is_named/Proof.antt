@@ -1,7 +1,7 @@
 use borrow.Author.Needs.{needs}
 use borrow.Author.Tests.{lt-ltb}
 use Rattle.clauses.specs.Register.{allNamed}
-use Rattle.store.proofs.Choice.{tests}
+use Rattle.rules.proofs.Choice.{tests}
 use Rattle.clauses.proofs.registering.is_named.Statement.{statement}
 use Rattle.clauses.proofs.registering.is_named.Tie as tie
 

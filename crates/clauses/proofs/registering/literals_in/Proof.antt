@@ -3,7 +3,7 @@ use borrow.Author.Needs.{needs}
 use borrow.Author.Tests.{ne-eqb}
 use Rattle.clauses.proofs.Registers.{known-small}
 use Rattle.clauses.specs.Register.{literalCountOf}
-use Rattle.store.proofs.Choice.{tests}
+use Rattle.rules.proofs.Choice.{tests}
 use Rattle.store.specs.Codes.{noCondition}
 use Rattle.clauses.proofs.registering.literals_in.Statement.{statement}
 use Rattle.clauses.proofs.registering.literals_in.Tie as tie

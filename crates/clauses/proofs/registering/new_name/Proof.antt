@@ -4,8 +4,8 @@ use native.Mathlib.Omega.{arith}
 use borrow.Author.Needs.{needs}
 use Rattle.clauses.proofs.Naming.{same-name, other-name}
 use Rattle.clauses.specs.Names.{otherName, newName}
-use Rattle.store.proofs.Loops.{all-start, all-fail, all-more, all-end}
-use Rattle.store.specs.Numbers.{allFrom}
+use Rattle.rules.proofs.Loops.{all-start, all-fail, all-more, all-end}
+use Rattle.rules.specs.Numbers.{allFrom}
 use Rattle.clauses.proofs.registering.new_name.Statement.{statement}
 use Rattle.clauses.proofs.registering.new_name.Tie as tie
 

@@ -2,7 +2,8 @@ use mathlib.Core.Path.{ap, _∙_}
 use Prim.Native.Nat.{_+_}
 use native.Mathlib.Omega.{arith}
 use borrow.Author.Needs.{needs}
-use Rattle.clauses.proofs.Ranking.{behind-most}
+use Rattle.clauses.specs.Record.{parentAt}
+use Rattle.rules.proofs.Ranks.{behind-most}
 use Rattle.clauses.proofs.Registers.{clause-is, all-put}
 use Rattle.store.specs.Area.{at}
 use Rattle.clauses.proofs.registering.put_in.Statement.{statement}
@@ -51,10 +52,10 @@ condition-word-requires : tie.Need-condition-word-requires
 condition-word-requires c κs = search needs
 
 put-record-requires : tie.Need-put-record-requires
-put-record-requires c κs = (c .before .before .before .before .before .before .before .before .before .before .before .before .before .before .before .before .before .before .before .before .before .pre .0 .long, rw (c .before .before .before .before .before .before .before .before .before .before .before .before .before .before .before .rank-of .ensures) (behind-most _ _ _ _ (omega arith)), omega (arith, c .before .before .before .before .before .before .before .before .before .before .before .before .before .before .before .before .before .before .before .before .before .pre .2 .few, c .before .before .before .before .before .before .before .before .before .before .before .before .before .before .before .before .before .wide .ensures, c .before .before .before .before .before .before .before .before .before .before .before .before .before .before .before .before .before .before .clause-count .ensures), c .before .before .before .before .before .before .before .before .before .before .before .before .before .before .before .before .before .before .before .before .before .pre .2 .key<)
+put-record-requires c κs = (c .before .before .before .before .before .before .before .before .before .before .before .before .before .before .before .before .before .before .before .before .before .pre .0 .long, rw (c .before .before .before .before .before .before .before .before .before .before .before .before .before .before .before .rank-of .ensures) (behind-most (parentAt _) _ _ _ (omega arith)), omega (arith, c .before .before .before .before .before .before .before .before .before .before .before .before .before .before .before .before .before .before .before .before .before .pre .2 .few, c .before .before .before .before .before .before .before .before .before .before .before .before .before .before .before .before .before .wide .ensures, c .before .before .before .before .before .before .before .before .before .before .before .before .before .before .before .before .before .before .clause-count .ensures), c .before .before .before .before .before .before .before .before .before .before .before .before .before .before .before .before .before .before .before .before .before .pre .2 .key<)
 
 insert-requires : tie.Need-insert-requires
-insert-requires c κs = (search needs, rw (c .before .before .before .before .before .before .before .before .before .before .before .before .before .before .before .before .before .before .before .rank-of .ensures) (behind-most _ _ _ _ (omega arith)), omega (arith, c .before .before .before .before .before .before .before .before .before .before .before .before .before .before .before .before .before .before .before .before .before .before .before .before .before .pre .2 .few, c .before .before .before .before .before .before .before .before .before .before .before .before .before .before .before .before .before .before .before .before .before .wide .ensures, c .before .before .before .before .before .before .before .before .before .before .before .before .before .before .before .before .before .before .before .before .before .before .clause-count .ensures))
+insert-requires c κs = (search needs, rw (c .before .before .before .before .before .before .before .before .before .before .before .before .before .before .before .before .before .before .before .rank-of .ensures) (behind-most (parentAt _) _ _ _ (omega arith)), omega (arith, c .before .before .before .before .before .before .before .before .before .before .before .before .before .before .before .before .before .before .before .before .before .before .before .before .before .pre .2 .few, c .before .before .before .before .before .before .before .before .before .before .before .before .before .before .before .before .before .before .before .before .before .wide .ensures, c .before .before .before .before .before .before .before .before .before .before .before .before .before .before .before .before .before .before .before .before .before .before .clause-count .ensures))
 
 cast-clause-count : tie.Need-cast-clause-count
 cast-clause-count c = search needs

@@ -8,8 +8,8 @@ use denote.Ref.{now}
 use lib.ListN.{length}
 use Rattle.conditions.proofs.Candidates.{Conjunct, conjunct-at, part-named, part-holds}
 use Rattle.conditions.specs.Disjunct.{holdsAt}
-use Rattle.store.proofs.Loops.{all-start, all-fail, all-more, all-end}
-use Rattle.store.specs.Numbers.{allFrom}
+use Rattle.rules.proofs.Loops.{all-start, all-fail, all-more, all-end}
+use Rattle.rules.specs.Numbers.{allFrom}
 use Rattle.conditions.proofs.disjunct.all_hold.Statement.{statement}
 use Rattle.conditions.proofs.disjunct.all_hold.Tie as tie
 

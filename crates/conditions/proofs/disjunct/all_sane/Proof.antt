@@ -8,8 +8,8 @@ use denote.Ref.{now}
 use lib.ListN.{length}
 use Rattle.conditions.proofs.Candidates.{sane-at}
 use Rattle.conditions.specs.Disjunct.{saneAt}
-use Rattle.store.proofs.Loops.{all-start, all-fail, all-more, all-end}
-use Rattle.store.specs.Numbers.{allFrom}
+use Rattle.rules.proofs.Loops.{all-start, all-fail, all-more, all-end}
+use Rattle.rules.specs.Numbers.{allFrom}
 use Rattle.conditions.proofs.disjunct.all_sane.Statement.{statement}
 use Rattle.conditions.proofs.disjunct.all_sane.Tie as tie
 

@@ -5,8 +5,8 @@ use borrow.Author.Needs.{needs}
 use denote.Ref.{now}
 use Rattle.conditions.proofs.Measuring.{asked-at, not-short, is-short}
 use Rattle.conditions.specs.Steps.{shortAt}
-use Rattle.store.proofs.Loops.{all-start, all-fail, all-more, all-end}
-use Rattle.store.specs.Numbers.{allFrom}
+use Rattle.rules.proofs.Loops.{all-start, all-fail, all-more, all-end}
+use Rattle.rules.specs.Numbers.{allFrom}
 use Rattle.conditions.proofs.dnf.all_short.Statement.{statement}
 use Rattle.conditions.proofs.dnf.all_short.Tie as tie
 

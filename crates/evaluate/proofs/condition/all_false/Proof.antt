@@ -4,10 +4,12 @@ use native.Mathlib.Omega.{arith}
 use borrow.Author.Needs.{needs}
 use Rattle.evaluate.proofs.Literals.{literals-fail, literals-next, literals-end}
 use Rattle.evaluate.proofs.Turns.{from-begin}
-use Rattle.evaluate.specs.View.{assigned, from, literalAt}
+use Rattle.evaluate.specs.View.{literalAt}
 use Rattle.rules.specs.Walk.{allFalse}
 use Rattle.evaluate.proofs.condition.all_false.Statement.{statement}
 use Rattle.evaluate.proofs.condition.all_false.Tie as tie
+use Rattle.trail.specs.Assignment.{assigned}
+use Rattle.rules.specs.Numbers.{from}
 
 abbrev Inv-loop : tie.InvT-loop
 Inv-loop s start n i₀ i = (i ≤ n) × (allFalse (assigned s) (from (literalAt s) start n) ≡ allFalse (assigned s) (from (literalAt s) (start + i) (n - i)))

@@ -3,9 +3,9 @@ use borrow.Author.Needs.{needs}
 use denote.Ref.{now}
 use Rattle.evaluate.proofs.Literals.{negated-false, plain-false}
 use Rattle.evaluate.proofs.Reading.{literal-variable}
-use Rattle.evaluate.specs.View.{assigned}
 use Rattle.evaluate.proofs.condition.literal_false.Statement.{statement}
 use Rattle.evaluate.proofs.condition.literal_false.Tie as tie
+use Rattle.trail.specs.Assignment.{assigned}
 
 literal-variable-requires : tie.Need-literal-variable-requires
 literal-variable-requires c κs = search needs

@@ -7,10 +7,11 @@ use denote.Ref.{now}
 use lib.ListN.{drop}
 use Rattle.evaluate.proofs.Cells.{count-more, count-same, count-done}
 use Rattle.evaluate.proofs.Reading.{cell-variable}
-use Rattle.evaluate.specs.View.{assigned, run}
+use Rattle.evaluate.specs.View.{run}
 use Rattle.rules.specs.Walk.{countUndecided}
 use Rattle.evaluate.proofs.lists.count_undecided.Statement.{statement}
 use Rattle.evaluate.proofs.lists.count_undecided.Tie as tie
+use Rattle.trail.specs.Assignment.{assigned}
 
 abbrev Inv-loop : tie.InvT-loop
 Inv-loop s start n count₀ i₀ count i = (i ≤ n) × (count ≤ i) × (countUndecided (assigned s) (run s start n) ≡ count + countUndecided (assigned s) (drop i (run s start n)))

@@ -5,10 +5,12 @@ use borrow.Author.Needs.{needs}
 use denote.Ref.{now}
 use Rattle.evaluate.proofs.Scans.{lists-hit, lists-next, lists-none}
 use Rattle.evaluate.proofs.Turns.{from-begin}
-use Rattle.evaluate.specs.View.{assigned, from, listAt}
+use Rattle.evaluate.specs.View.{listAt}
 use Rattle.rules.specs.Walk.{flattened, firstTrue}
 use Rattle.evaluate.proofs.lists.first_true_in.Statement.{statement}
 use Rattle.evaluate.proofs.lists.first_true_in.Tie as tie
+use Rattle.trail.specs.Assignment.{assigned}
+use Rattle.rules.specs.Numbers.{from}
 
 abbrev Inv-loop : tie.InvT-loop
 Inv-loop s slot n i₀ i = (i ≤ n) × (firstTrue (assigned s) (flattened (from (listAt s) slot n)) ≡ firstTrue (assigned s) (flattened (from (listAt s) (slot + i) (n - i))))

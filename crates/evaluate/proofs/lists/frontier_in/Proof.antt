@@ -4,11 +4,13 @@ use native.Mathlib.Omega.{arith}
 use borrow.Author.Needs.{needs}
 use Rattle.evaluate.proofs.Scans.{frontier-hit, frontier-next, frontier-none}
 use Rattle.evaluate.proofs.Turns.{from-begin}
-use Rattle.evaluate.specs.View.{assigned, from, listAt}
+use Rattle.evaluate.specs.View.{listAt}
 use Rattle.rules.specs.Walk.{frontier}
-use Rattle.store.proofs.Choice.{true-false}
+use Rattle.rules.proofs.Choice.{true-false}
 use Rattle.evaluate.proofs.lists.frontier_in.Statement.{statement}
 use Rattle.evaluate.proofs.lists.frontier_in.Tie as tie
+use Rattle.trail.specs.Assignment.{assigned}
+use Rattle.rules.specs.Numbers.{from}
 
 abbrev Inv-loop : tie.InvT-loop
 Inv-loop s slot n i₀ i = (i ≤ n) × (frontier (assigned s) (from (listAt s) slot n) ≡ frontier (assigned s) (from (listAt s) (slot + i) (n - i)))

@@ -39,13 +39,13 @@ same-length : tie.Need-same-length
 same-length c = search needs
 
 returns : tie.Need-returns
-returns c = inspect-known _ _ (c .before .before .before .before .before .before .before .before .before .before .before .before .before .pre .1) _ (c .before .before .before .before .before .before .wide .ensures ∙ c .before .before .before .before .before .before .before .requirement .ensures) (sym (c .before .before .before .before .before .before .before .before .before .before .is-active .ensures) ∙ c .before .before .before .before .before .before .before .before .before .if1 .taken) _ _ (c .seen-as .ensures) (sym (c .before .before .before .before .recall .ensures) ∙ c .before .before .cache .given .1)
+returns c = inspect-known _ _ (c .before .before .before .before .before .before .before .before .before .before .before .before .before .pre .1) _ (c .before .before .before .before .before .before .wide .ensures ∙ c .before .before .before .before .before .before .before .requirement .ensures) (sym (c .before .before .before .before .before .before .before .before .before .before .is-active .ensures) ∙ c .before .before .before .before .before .before .before .before .before .if1 .taken) _ _ (c .examine-as .ensures) (sym (c .before .before .before .before .recall .ensures) ∙ c .before .before .cache .given .1)
 
 same-length-2 : tie.Need-same-length-2
 same-length-2 c = search needs
 
 returns-2 : tie.Need-returns-2
-returns-2 c = inspect-dirty _ _ (c .before .before .before .before .before .before .before .before .before .before .before .before .before .before .before .before .before .before .pre .1) _ (c .before .before .before .before .before .before .before .before .before .before .before .wide .ensures ∙ c .before .before .before .before .before .before .before .before .before .before .before .before .requirement .ensures) (sym (c .before .before .before .before .before .before .before .before .before .before .before .before .before .before .before .is-active .ensures) ∙ c .before .before .before .before .before .before .before .before .before .before .before .before .before .before .if1 .taken) _ _ (c .seen-as2 .ensures) _ (sym (c .before .before .before .before .before .before .before .before .before .recall .ensures) ∙ c .before .before .before .before .before .before .before .enum-told .given .1) (c .before .before .before .before .before .eval-at .ensures) (c .before .before .before .save .ensures)
+returns-2 c = inspect-dirty _ _ (c .before .before .before .before .before .before .before .before .before .before .before .before .before .before .before .before .before .before .pre .1) _ (c .before .before .before .before .before .before .before .before .before .before .before .wide .ensures ∙ c .before .before .before .before .before .before .before .before .before .before .before .before .requirement .ensures) (sym (c .before .before .before .before .before .before .before .before .before .before .before .before .before .before .before .is-active .ensures) ∙ c .before .before .before .before .before .before .before .before .before .before .before .before .before .before .if1 .taken) _ _ (c .examine-as2 .ensures) _ (sym (c .before .before .before .before .before .before .before .before .before .recall .ensures) ∙ c .before .before .before .before .before .before .before .enum-told .given .1) (c .before .before .before .before .before .eval-at .ensures) (c .before .before .before .save .ensures)
 
 same-length-3 : tie.Need-same-length-3
 same-length-3 c = search needs

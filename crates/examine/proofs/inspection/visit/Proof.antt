@@ -41,7 +41,7 @@ same-length-3 : tie.Need-same-length-3
 same-length-3 c = search needs
 
 returns-3 : tie.Need-returns-3
-returns-3 c = visit-open _ _ (c .before .before .before .before .before .before .before .before .before .before .before .pre .1) _ (c .before .before .before .before .before .before .before .before .queued .ensures) _ (c .before .before .before .before .before .before .before .if1 .left) _ _ _ (sym (c .before .before .before .before .before .inspect .ensures .0) ∙ c .before .seen .given .1) (c .before .before .before .before .before .inspect .ensures .1)
+returns-3 c = visit-open _ _ (c .before .before .before .before .before .before .before .before .before .before .before .pre .1) _ (c .before .before .before .before .before .before .before .before .queued .ensures) _ (c .before .before .before .before .before .before .before .if1 .left) _ _ _ (sym (c .before .before .before .before .before .inspect .ensures .0) ∙ c .before .examine .given .1) (c .before .before .before .before .before .inspect .ensures .1)
 
 same-length-4 : tie.Need-same-length-4
 same-length-4 c = search needs

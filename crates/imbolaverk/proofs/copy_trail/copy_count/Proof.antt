@@ -2,7 +2,7 @@ use mathlib.Core.Path.{_∙_}
 use borrow.Author.Needs.{needs}
 use borrow.Author.Tests.{eq-eqb, le-leb}
 use Rattle.imbolaverk.specs.CopyTrail.{countOf}
-use Rattle.store.proofs.Choice.{tests}
+use Rattle.rules.proofs.Choice.{tests}
 use Rattle.imbolaverk.proofs.copy_trail.copy_count.Statement.{statement}
 use Rattle.imbolaverk.proofs.copy_trail.copy_count.Tie as tie
 

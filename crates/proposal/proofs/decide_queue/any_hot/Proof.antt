@@ -4,11 +4,12 @@ use native.Mathlib.Omega.{arith}
 use borrow.Author.Needs.{needs}
 use Rattle.evaluate.proofs.Turns.{from-begin}
 use Rattle.evaluate.specs.Standing.{envOf}
-use Rattle.evaluate.specs.View.{from, listAt}
+use Rattle.evaluate.specs.View.{listAt}
 use Rattle.proposal.proofs.Steps.{hot-hit, hot-next, hot-none, name-below}
 use Rattle.rules.specs.Walk.{anyHot}
 use Rattle.proposal.proofs.decide_queue.any_hot.Statement.{statement}
 use Rattle.proposal.proofs.decide_queue.any_hot.Tie as tie
+use Rattle.rules.specs.Numbers.{from}
 
 abbrev Inv-loop : tie.InvT-loop
 Inv-loop s slot n i₀ i = (i ≤ n) × (anyHot (envOf s .hot) (from (listAt s) slot n) ≡ anyHot (envOf s .hot) (from (listAt s) (slot + i) (n - i)))

@@ -2,7 +2,7 @@ use native.Mathlib.Omega.{arith}
 use borrow.Author.Needs.{needs}
 use Rattle.evaluate.proofs.Records.{clause-inside}
 use Rattle.proposal.proofs.Loops.{told-choose, told-dead, told-nothing}
-use Rattle.settings.proofs.FloatOrder.{no-nan-bits}
+use Rattle.rules.proofs.FloatOrder.{no-nan-bits}
 use Rattle.proposal.proofs.decide_queue.propose.Statement.{statement}
 use Rattle.proposal.proofs.decide_queue.propose.Tie as tie
 

@@ -6,13 +6,14 @@ use denote.Ref.{now}
 use lib.ListN.{length}
 use Rattle.requirement.proofs.Copying.{count-most, cells-most, left-start, sum-turn, sum-none}
 use Rattle.store.specs.Lent.{joined}
-use Rattle.requirement.specs.Tables.{keyOf, firstSlot, listsFrom}
+use Rattle.requirement.specs.Tables.{cellsOf, keyOf, firstSlot}
+use Rattle.rules.specs.Numbers.{from}
 use Rattle.store.specs.Limits.{cellRoom}
 use Rattle.requirement.proofs.candidates.cell_count.Statement.{statement}
 use Rattle.requirement.proofs.candidates.cell_count.Tie as tie
 
 abbrev Inv-loop : tie.InvT-loop
-Inv-loop s r n sum₀ j₀ sum j = (j ≤ n) × (sum ≤ cellRoom * j) × (sum + length (joined (listsFrom s (firstSlot (keyOf r) + j) (n - j))) ≡ length (joined (listsFrom s (firstSlot (keyOf r)) n)))
+Inv-loop s r n sum₀ j₀ sum j = (j ≤ n) × (sum ≤ cellRoom * j) × (sum + length (joined (from (cellsOf s) (firstSlot (keyOf r) + j) (n - j))) ≡ length (joined (from (cellsOf s) (firstSlot (keyOf r)) n)))
 
 abbrev μ-loop : tie.MeasureT-loop
 μ-loop s r n sum₀ j₀ sum j = n - j

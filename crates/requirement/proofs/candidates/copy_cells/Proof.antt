@@ -6,14 +6,15 @@ use denote.Ref.{now}
 use lib.ListN.{length}
 use Rattle.requirement.proofs.Copying.{left-start, sum-turn, joined-turn, joined-done}
 use Rattle.store.specs.Lent.{joined}
-use Rattle.requirement.specs.Tables.{keyOf, firstSlot, listsFrom}
+use Rattle.requirement.specs.Tables.{cellsOf, keyOf, firstSlot}
+use Rattle.rules.specs.Numbers.{from}
 use Rattle.store.proofs.Runs.{length-run}
 use Rattle.store.specs.Area.{putRun}
 use Rattle.requirement.proofs.candidates.copy_cells.Statement.{statement}
 use Rattle.requirement.proofs.candidates.copy_cells.Tie as tie
 
 abbrev Inv-loop : tie.InvT-loop
-Inv-loop s r n cells₀ room place₀ j₀ cells place j = (j ≤ n) × (length cells ≡ length cells₀) × (place + length (joined (listsFrom s (firstSlot (keyOf r) + j) (n - j))) ≤ length cells₀) × (putRun (record { base = 0; size = length cells₀ }) 0 (joined (listsFrom s (firstSlot (keyOf r)) n)) cells₀ ≡ putRun (record { base = 0; size = length cells₀ }) place (joined (listsFrom s (firstSlot (keyOf r) + j) (n - j))) cells)
+Inv-loop s r n cells₀ room place₀ j₀ cells place j = (j ≤ n) × (length cells ≡ length cells₀) × (place + length (joined (from (cellsOf s) (firstSlot (keyOf r) + j) (n - j))) ≤ length cells₀) × (putRun (record { base = 0; size = length cells₀ }) 0 (joined (from (cellsOf s) (firstSlot (keyOf r)) n)) cells₀ ≡ putRun (record { base = 0; size = length cells₀ }) place (joined (from (cellsOf s) (firstSlot (keyOf r) + j) (n - j))) cells)
 
 abbrev μ-loop : tie.MeasureT-loop
 μ-loop s r n cells₀ room place₀ j₀ cells place j = n - j

@@ -5,14 +5,15 @@ use borrow.Author.Needs.{needs}
 use denote.Ref.{now}
 use lib.ListN.{length, length-set}
 use Rattle.requirement.proofs.Copying.{cells-most, left-start, lengths-turn, lengths-done}
-use Rattle.requirement.specs.Tables.{keyOf, firstSlot, listsFrom}
+use Rattle.requirement.specs.Tables.{cellsOf, keyOf, firstSlot}
+use Rattle.rules.specs.Numbers.{from}
 use Rattle.store.specs.Area.{putRun}
 use Rattle.store.specs.Lent.{lengthsOf}
 use Rattle.requirement.proofs.candidates.copy_lengths.Statement.{statement}
 use Rattle.requirement.proofs.candidates.copy_lengths.Tie as tie
 
 abbrev Inv-loop : tie.InvT-loop
-Inv-loop s r n lengths₀ j₀ lengths j = (j ≤ n) × (length lengths ≡ length lengths₀) × (putRun (record { base = 0; size = length lengths₀ }) 0 (lengthsOf (listsFrom s (firstSlot (keyOf r)) n)) lengths₀ ≡ putRun (record { base = 0; size = length lengths₀ }) j (lengthsOf (listsFrom s (firstSlot (keyOf r) + j) (n - j))) lengths)
+Inv-loop s r n lengths₀ j₀ lengths j = (j ≤ n) × (length lengths ≡ length lengths₀) × (putRun (record { base = 0; size = length lengths₀ }) 0 (lengthsOf (from (cellsOf s) (firstSlot (keyOf r)) n)) lengths₀ ≡ putRun (record { base = 0; size = length lengths₀ }) j (lengthsOf (from (cellsOf s) (firstSlot (keyOf r) + j) (n - j))) lengths)
 
 abbrev μ-loop : tie.MeasureT-loop
 μ-loop s r n lengths₀ j₀ lengths j = n - j

@@ -1,6 +1,6 @@
 use borrow.Author.Needs.{needs}
 use Rattle.requirement.specs.Tables.{firstSlot}
-use Rattle.store.proofs.Choice.{tests}
+use Rattle.rules.proofs.Choice.{tests}
 use Rattle.requirement.proofs.candidates.first_slot.Statement.{statement}
 use Rattle.requirement.proofs.candidates.first_slot.Tie as tie
 

@@ -1,7 +1,7 @@
 use borrow.Author.Needs.{needs}
 use borrow.Author.Tests.{lt-ltb, eq-eqb, ne-eqb}
 use Rattle.requirement.specs.Load.{known}
-use Rattle.store.proofs.Choice.{tests}
+use Rattle.rules.proofs.Choice.{tests}
 use Rattle.store.specs.Area.{at}
 use Rattle.requirement.proofs.candidates.is_known.Statement.{statement}
 use Rattle.requirement.proofs.candidates.is_known.Tie as tie

@@ -1,5 +1,5 @@
 use Rattle.requirement.specs.Tables.{requirementOf}
-use Rattle.store.proofs.Choice.{tests}
+use Rattle.rules.proofs.Choice.{tests}
 use Rattle.requirement.proofs.candidates.requirement_of.Statement.{statement}
 use Rattle.requirement.proofs.candidates.requirement_of.Tie as tie
 

@@ -2,7 +2,7 @@ use mathlib.Core.Path.{_∙_}
 use borrow.Author.Needs.{needs}
 use borrow.Author.Tests.{le-ltb}
 use Rattle.requirement.specs.Tables.{setOf}
-use Rattle.store.proofs.Choice.{tests}
+use Rattle.rules.proofs.Choice.{tests}
 use Rattle.store.specs.Limits.{versionSets}
 use Rattle.requirement.proofs.candidates.set_at.Statement.{statement}
 use Rattle.requirement.proofs.candidates.set_at.Tie as tie

@@ -3,7 +3,7 @@ use native.Mathlib.Omega.{arith}
 use borrow.Author.Needs.{needs}
 use borrow.Author.Tests.{le-ltb}
 use Rattle.requirement.specs.Tables.{setCount}
-use Rattle.store.proofs.Choice.{tests}
+use Rattle.rules.proofs.Choice.{tests}
 use Rattle.requirement.proofs.candidates.set_count.Statement.{statement}
 use Rattle.requirement.proofs.candidates.set_count.Tie as tie
 

@@ -1,7 +1,7 @@
 use borrow.Author.Needs.{needs}
 use borrow.Author.Tests.{ne-eqb}
 use Rattle.settings.specs.Settings.{activityWith}
-use Rattle.store.proofs.Choice.{tests}
+use Rattle.rules.proofs.Choice.{tests}
 use Rattle.settings.proofs.tuning.activity_with.Statement.{statement}
 use Rattle.settings.proofs.tuning.activity_with.Tie as tie
 

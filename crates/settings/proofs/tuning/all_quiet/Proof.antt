@@ -3,9 +3,9 @@ use Prim.Native.Nat.{_-_, _≤_}
 use native.Mathlib.Omega.{arith}
 use borrow.Author.Needs.{needs}
 use Rattle.settings.specs.Settings.{quiet}
-use Rattle.store.proofs.Loops.{all-start, all-fail, all-more, all-end}
+use Rattle.rules.proofs.Loops.{all-start, all-fail, all-more, all-end}
 use Rattle.store.specs.Limits.{names}
-use Rattle.store.specs.Numbers.{allFrom}
+use Rattle.rules.specs.Numbers.{allFrom}
 use Rattle.settings.proofs.tuning.all_quiet.Statement.{statement}
 use Rattle.settings.proofs.tuning.all_quiet.Tie as tie
 

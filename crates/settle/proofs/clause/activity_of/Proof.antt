@@ -1,6 +1,6 @@
 use borrow.Author.Needs.{needs}
 use native.Mathlib.Omega.{arith}
-use Rattle.settings.proofs.FloatOrder.{no-nan-bits}
+use Rattle.rules.proofs.FloatOrder.{no-nan-bits}
 use Rattle.settle.proofs.clause.activity_of.Statement.{statement}
 use Rattle.settle.proofs.clause.activity_of.Tie as tie
 

@@ -4,11 +4,11 @@ use native.Mathlib.Omega.{arith}
 use borrow.Author.Needs.{needs}
 use denote.Ref.{now}
 use Rattle.evaluate.proofs.Reading.{cell-variable}
-use Rattle.evaluate.specs.View.{from}
 use Rattle.sync.proofs.Occurring.{anyOf, cellTouched, cellAt, any-start, any-hit, any-next, any-none, run-any, cell-test}
 use Rattle.sync.specs.Table.{inTable}
 use Rattle.sync.proofs.occurrences.in_cells.Statement.{statement}
 use Rattle.sync.proofs.occurrences.in_cells.Tie as tie
+use Rattle.rules.specs.Numbers.{from}
 
 abbrev Inv-loop : tie.InvT-loop
 Inv-loop s t start n i₀ i = (i ≤ n) × (anyOf (cellTouched (inTable t)) (from (cellAt s) start n) ≡ anyOf (cellTouched (inTable t)) (from (cellAt s) (start + i) (n - i)))

@@ -3,11 +3,12 @@ use Prim.Native.Nat.{_+_, _-_, _≤_}
 use native.Mathlib.Omega.{arith}
 use borrow.Author.Needs.{needs}
 use denote.Ref.{now}
-use Rattle.evaluate.specs.View.{from, listAt}
+use Rattle.evaluate.specs.View.{listAt}
 use Rattle.sync.proofs.Occurring.{anyOf, listTouched, any-start, any-hit, any-next, any-none, lists-any, list-test}
 use Rattle.sync.specs.Table.{inTable}
 use Rattle.sync.proofs.occurrences.in_lists.Statement.{statement}
 use Rattle.sync.proofs.occurrences.in_lists.Tie as tie
+use Rattle.rules.specs.Numbers.{from}
 
 abbrev Inv-loop : tie.InvT-loop
 Inv-loop s t slot n i₀ i = (i ≤ n) × (anyOf (listTouched (inTable t)) (from (listAt s) slot n) ≡ anyOf (listTouched (inTable t)) (from (listAt s) (slot + i) (n - i)))

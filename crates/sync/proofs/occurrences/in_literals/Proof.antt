@@ -4,11 +4,12 @@ use native.Mathlib.Omega.{arith}
 use borrow.Author.Needs.{needs}
 use denote.Ref.{now}
 use Rattle.evaluate.proofs.Reading.{literal-variable}
-use Rattle.evaluate.specs.View.{from, literalAt}
+use Rattle.evaluate.specs.View.{literalAt}
 use Rattle.sync.proofs.Occurring.{anyOf, literalTouched, any-start, any-hit, any-next, any-none, literals-any, literal-test}
 use Rattle.sync.specs.Table.{inTable}
 use Rattle.sync.proofs.occurrences.in_literals.Statement.{statement}
 use Rattle.sync.proofs.occurrences.in_literals.Tie as tie
+use Rattle.rules.specs.Numbers.{from}
 
 abbrev Inv-loop : tie.InvT-loop
 Inv-loop s t start n i₀ i = (i ≤ n) × (anyOf (literalTouched (inTable t)) (from (literalAt s) start n) ≡ anyOf (literalTouched (inTable t)) (from (literalAt s) (start + i) (n - i)))

@@ -1,7 +1,7 @@
 use native.Mathlib.Omega.{arith}
 use borrow.Author.Needs.{needs}
 use borrow.Author.Tests.{le-leb, lt-leb}
-use Rattle.store.proofs.Choice.{tests}
+use Rattle.rules.proofs.Choice.{tests}
 use Rattle.tables.specs.Condition.{branchIn}
 use Rattle.tables.proofs.condition.branch_case.Statement.{statement}
 use Rattle.tables.proofs.condition.branch_case.Tie as tie

@@ -1,6 +1,6 @@
 use borrow.Author.Needs.{needs}
 use borrow.Author.Tests.{lt-leb}
-use Rattle.store.proofs.Choice.{tests}
+use Rattle.rules.proofs.Choice.{tests}
 use Rattle.tables.specs.Condition.{leafIn}
 use Rattle.tables.proofs.condition.leaf_case.Statement.{statement}
 use Rattle.tables.proofs.condition.leaf_case.Tie as tie

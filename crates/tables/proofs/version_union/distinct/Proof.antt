@@ -3,8 +3,8 @@ use Prim.Native.Nat.{_-_, _≤_}
 use native.Mathlib.Omega.{arith}
 use borrow.Author.Needs.{needs}
 use lib.ListN.{length}
-use Rattle.store.proofs.Loops.{all-start, all-fail, all-more, all-end}
-use Rattle.store.specs.Numbers.{allFrom}
+use Rattle.rules.proofs.Loops.{all-start, all-fail, all-more, all-end}
+use Rattle.rules.specs.Numbers.{allFrom}
 use Rattle.tables.specs.Union.{newAt, distinct}
 use Rattle.tables.proofs.version_union.distinct.Statement.{statement}
 use Rattle.tables.proofs.version_union.distinct.Tie as tie

@@ -1,8 +1,8 @@
 use mathlib.Core.Path.{sym, ap, _∙_}
 use borrow.Author.Needs.{needs}
 use Rattle.rules.specs.Walk.{isTrue}
-use Rattle.evaluate.proofs.assignment.is_true.Statement.{statement}
-use Rattle.evaluate.proofs.assignment.is_true.Tie as tie
+use Rattle.trail.proofs.assignment.is_true.Statement.{statement}
+use Rattle.trail.proofs.assignment.is_true.Tie as tie
 
 value-of-requires : tie.Need-value-of-requires
 value-of-requires c κs = search needs

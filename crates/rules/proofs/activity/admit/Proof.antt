@@ -1,11 +1,11 @@
 use mathlib.Core.Path.{sym, subst}
 use borrow.Author.Needs.{needs}
 use lib.Dec.{T}
-use Rattle.settings.proofs.FloatOrder.{good-within, good-beyond, same-no-nan}
-use Rattle.settings.specs.Activity.{good, admitted}
+use Rattle.rules.proofs.FloatOrder.{good-within, good-beyond, same-no-nan}
+use Rattle.rules.specs.Activity.{good, admitted}
 use lib.Ieee.Compare.{differs-from-itself}
-use Rattle.settings.proofs.activity.admit.Statement.{statement}
-use Rattle.settings.proofs.activity.admit.Tie as tie
+use Rattle.rules.proofs.activity.admit.Statement.{statement}
+use Rattle.rules.proofs.activity.admit.Tie as tie
 
 returns : tie.Need-returns
 unfolding admitted good

@@ -1,7 +1,7 @@
 use borrow.Author.Needs.{needs}
-use Rattle.evaluate.specs.View.{assigned}
-use Rattle.evaluate.proofs.assignment.value_of.Statement.{statement}
-use Rattle.evaluate.proofs.assignment.value_of.Tie as tie
+use Rattle.trail.proofs.assignment.value_of.Statement.{statement}
+use Rattle.trail.proofs.assignment.value_of.Tie as tie
+use Rattle.trail.specs.Assignment.{assigned}
 
 wide-requires : tie.Need-wide-requires
 wide-requires c κs = search needs

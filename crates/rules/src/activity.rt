@@ -3,9 +3,10 @@ ghost use mathlib.Core.Path.{_≡_};
 ghost use Prim.Native.Nat.{_≤_};
 ghost use lib.Dec.{ltb, eqb};
 ghost use lib.Ieee.{binary32, ofBits, lt, eq};
-ghost use Rattle.store.specs.Limits.{lastActivity};
-ghost use Rattle.settings.specs.Activity.{admitted};
-use store::limits;
+ghost use Rattle.rules.specs.Activity.{admitted, lastActivity};
+
+// The bits of the largest finite f32: up to them the sign is clear and the number finite.
+pub const LAST_ACTIVITY: usize = 2_139_095_039;
 
 // What an activity from outside is: its bits, or nothing that can be stored.
 pub enum Admitted {
@@ -21,7 +22,7 @@ pub fn admit(x: f32) -> Admitted
         return Admitted::Bad;
     }
     let bits = f32::to_bits(x);
-    if bits <= limits::LAST_ACTIVITY as u32 {
+    if bits <= LAST_ACTIVITY as u32 {
         return Admitted::Bits(bits);
     }
     Admitted::Bad

@@ -15,8 +15,7 @@ use lib.Ieee.Fits.{down-pos, and-i, and-l, and-r, eq→eqb}
 use lib.Ieee.Exact.{HasValue, odd-sign}
 use lib.Ieee.Order.{transfer}
 use borrow.Author.Tests.{lt-ltb, le-ltb, ltb-true}
-use Rattle.store.specs.Limits.{lastActivity}
-use Rattle.settings.specs.Activity.{good}
+use Rattle.rules.specs.Activity.{good, lastActivity}
 
 -- two values that are not negative, each a whole number of one unit 1 / c: their order is that of the numbers
 same-test : (a b : Bool) → (T a → T b) → (T b → T a) → a ≡ b

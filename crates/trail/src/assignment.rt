@@ -4,11 +4,11 @@ ghost use Prim.Native.Nat.{_<_};
 ghost use Rattle.store.specs.Limits.{variables};
 ghost use Rattle.store.specs.Shape.{Sound};
 ghost use Rattle.rules.specs.Walk.{isTrue, isFalse, isUndecided};
-ghost use Rattle.evaluate.specs.View.{assigned};
+ghost use Rattle.trail.specs.Assignment.{assigned};
+use crate::decision_map;
+use rules::Value;
 use store::read;
 use store::wide;
-use trail::Value;
-use trail::decision_map;
 
 fn value_of(s: &[u32], variable: u32) -> Value
     requires { ⌜ (Sound (now s)) × (variable < variables) ⌝ }

@@ -1,8 +1,8 @@
 use mathlib.Core.Path.{refl}
 use native.Mathlib.Omega.{arith}
-use Rattle.settings.proofs.FloatOrder.{order-eq, no-nan-bits}
-use Rattle.settings.proofs.activity.same.Statement.{statement}
-use Rattle.settings.proofs.activity.same.Tie as tie
+use Rattle.rules.proofs.FloatOrder.{order-eq, no-nan-bits}
+use Rattle.rules.proofs.activity.same.Statement.{statement}
+use Rattle.rules.proofs.activity.same.Tie as tie
 
 float-from-bits-result : tie.Need-float-from-bits-result
 float-from-bits-result c = no-nan-bits _ (omega arith)
