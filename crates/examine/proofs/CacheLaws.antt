@@ -7,8 +7,8 @@ use Prim.Native.Nat.{ℕ, _≤_, _<_}
 use native.Mathlib.Omega.{arith}
 use lib.Dec.{T, eqb}
 use lib.ListN.{length}
-use Rattle.evaluate.proofs.Frames.{cachesRegion}
-use Rattle.evaluate.specs.Standing.{cacheBy, cacheOf}
+use Rattle.meaning.proofs.Frames.{cachesRegion}
+use Rattle.meaning.specs.Standing.{cacheBy, cacheOf}
 use Rattle.examine.specs.Cache.{cacheWrites, cached}
 use Rattle.store.proofs.AreaLaws.{area-puts, at-kept, at-put-else, at-written, clear-outside, length-puts}
 use Rattle.store.proofs.Soundness.{sound-put}
@@ -100,9 +100,9 @@ module _ (w : List ℕ) (key state x n m : ℕ) (h : key < requirements) where
       (sound-put cacheStates 2 key state w tt tt h a s)))
 
 -- "the dead requirement's cache stays dirty": no words say that it is dead
-never-dead : (state x n m : ℕ) → cacheBy state x n m ≡ Known state.Dead → ⊥
+never-dead : (kind x n m : ℕ) → cacheBy kind x n m ≡ Known state.Dead → ⊥
 unfolding cacheBy
-never-dead state x n m = go (eqb state 0) (eqb state 1)
+never-dead kind x n m = go (eqb kind 0) (eqb kind 1)
   where
     go : (a b : Bool) → cond a Dirty (cond b (Known (Satisfied x)) (Known (Frontier x n m))) ≡ Known state.Dead → ⊥
     go true b q = false≢true (cc)

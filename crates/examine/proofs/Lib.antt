@@ -1,5 +1,7 @@
-pub mod Clauses
-pub mod Visits
+pub mod Cells
+pub mod Scans
+pub mod Literals
 pub mod CacheLaws
 pub mod Small
 pub mod Stand
+pub mod Examining

@@ -9,11 +9,10 @@ use borrow.Author.Tests.{le-leb, leb-true}
 use lib.Dec.{leb}
 use lib.ListN.{length, getD, take, drop, length-take}
 use lib.Seq.{getD-take, getD-drop}
-use Rattle.evaluate.proofs.Froms.{every-both}
-use Rattle.evaluate.proofs.Cells.{firstThat, undecidedIn, undecided-search, trueIn, true-search}
-use Rattle.evaluate.specs.View.{listAt, listsAt}
+use Rattle.examine.proofs.Cells.{undecidedIn}
+use Rattle.meaning.specs.View.{listAt, listsAt}
 use Rattle.requirement.specs.Tables.{cellsOf, firstSlot, listCount, nameOf, setOf}
-use Rattle.rules.specs.Walk.{CandidateList, countUndecided, evaluate, firstTrue, firstUndecided, flattened, frontier, isUndecided, orElse, orNext}
+use Rattle.rules.specs.Walk.{CandidateList, countUndecided, evaluate, firstThat, firstTrue, firstUndecided, flattened, frontier, isUndecided, orElse, orNext}
 use Rattle.rules.proofs.Choice.{both}
 use Rattle.store.proofs.Counting.{every-of}
 use Rattle.store.specs.Area.{area, at}
@@ -25,9 +24,10 @@ use Rattle.rules.specs.declared.Found.the-variants.{At, Nowhere}
 use Rattle.rules.specs.declared.State.{State}
 use Rattle.rules.specs.declared.State.the-variants.{Satisfied, Frontier}
 use Rattle.rules.specs.declared.Value.{Value}
-use Rattle.trail.specs.Assignment.{assigned}
+use Rattle.trail.specs.Assignment.{assigned, assignedTrue}
 use Rattle.rules.specs.Numbers.{from}
 use Rattle.rules.specs.declared.State.the-variants as state
+use Rattle.meaning.proofs.Lists.{every-both}
 
 abbrev pub Small : State → Type 0
 Small (Satisfied x) = x ≤ lastVariable
@@ -91,7 +91,7 @@ module _ (w : List ℕ) (h : Sound w) where
       go : (f : Found) → firstUndecided (assigned w) (cellsOf w t) ≡ f → Small (frontier (assigned w) (from (listAt w) (t + 1) n)) →
           Small (orNext f (nameOf w (setOf w t)) (countUndecided (assigned w) (cellsOf w t)) (frontier (assigned w) (from (listAt w) (t + 1) n)))
       go (At x) e ih = (
-        found-small (undecidedIn w) (cellsOf w t) x (cells-small t) (undecided-search w (cellsOf w t) ∙ e),
+        found-small (undecidedIn w) (cellsOf w t) x (cells-small t) e,
         name-small (setOf w t),
         omega (arith, count-most (assigned w) (cellsOf w t), cells-few t),
       )
@@ -105,5 +105,5 @@ module _ (w : List ℕ) (h : Sound w) where
       lists = from (listAt w) (firstSlot key) (listCount w key)
 
       go : (f : Found) → firstTrue (assigned w) (flattened lists) ≡ f → Small (orElse f (frontier (assigned w) lists))
-      go (At x) e = found-small (trueIn w) (flattened lists) x (all-small (firstSlot key) (listCount w key)) (true-search w (flattened lists) ∙ e)
+      go (At x) e = found-small (assignedTrue w) (flattened lists) x (all-small (firstSlot key) (listCount w key)) e
       go Nowhere e = frontier-small (firstSlot key) (listCount w key)

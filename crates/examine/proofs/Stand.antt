@@ -9,13 +9,13 @@ use native.Mathlib.Omega.{arith}
 use borrow.Author.Tests.{eqb-true, eqb-false}
 use lib.Dec.{T, eqb}
 use lib.ListN.{length}
-use Rattle.evaluate.proofs.Records.{clause-inside, clause-word, key-below}
-use Rattle.evaluate.proofs.Frames.{assigned-same, env-same, cachesRegion}
-use Rattle.evaluate.specs.Standing.{envOf, markOf, cacheBy, cacheOf, ofClause, queueOf}
-use Rattle.evaluate.specs.View.{listsAt}
+use Rattle.meaning.proofs.Records.{clause-inside, clause-word, key-below}
+use Rattle.meaning.proofs.Frames.{assigned-same, env-same, cachesRegion}
+use Rattle.meaning.specs.Standing.{envOf, markOf, cacheBy, cacheOf, ofClause, queueOf}
+use Rattle.meaning.specs.View.{listsAt}
 use Rattle.examine.proofs.CacheLaws.{area-cached, length-cached, cache-else, cache-written, never-known-dead, sound-cached}
 use Rattle.examine.proofs.Small.{Small, evaluate-small}
-use Rattle.examine.specs.Cache.{cached, dropped, filled, clauseKey, visitedBy, refreshed, saved, seenAt, visited, wordOperations}
+use Rattle.examine.specs.Cache.{cached, dropped, examined, filled, clauseKey, findingAt, leftBy, refreshed, saved, wordOperations}
 use Rattle.rules.proofs.Following.{Stands}
 use Rattle.rules.specs.Queue.{fill, keep, examine, stateIn, unmark}
 use Rattle.rules.specs.Walk.{Environment, active, evaluate}
@@ -49,15 +49,15 @@ module _ (w : List ℕ) (h : Sound w) (k : ℕ) where
   key : ℕ
   key = clauseKey w k
 
-  state : State
-  state = evaluate (assigned w) (listsAt w key)
+  worked : State
+  worked = evaluate (assigned w) (listsAt w key)
 
   filled-leaves : (P : List ℕ → Type 0) → P w → ((s x n m : ℕ) → s ≤ 2 → x ≤ lastVariable → n ≤ lastName → m ≤ cellRoom → P (cached w key s x n m)) → P (filled w k)
-  unfolding filled key state
+  unfolding filled key worked
   filled-leaves P same step = go (active (envOf w) (assigned w) k)
     where
-      go : (b : Bool) → P (cond b (refreshed w key (cacheOf w key) state) w)
-      go true = refreshed-leaves P w key same step (cacheOf w key) state (evaluate-small w h key)
+      go : (b : Bool) → P (cond b (refreshed w key (cacheOf w key) worked) w)
+      go true = refreshed-leaves P w key same step (cacheOf w key) worked (evaluate-small w h key)
       go false = same
 
   -- an examination keeps a store sound, and all but the caches
@@ -87,15 +87,15 @@ module _ (w : List ℕ) (h : Sound w) (k : ℕ) where
   cache-refreshed Dirty state.Dead e = e
 
   cache-filled : (j : ℕ) → cacheOf (filled w k) j ≡ (fill (envOf w) (assigned w) (queueOf w) k) .cache j
-  unfolding filled key state
+  unfolding filled key worked
   cache-filled j = go (active (envOf w) (assigned w) k) (eqb j key) refl
     where
-      go : (b c : Bool) → eqb j key ≡ c → cacheOf (cond b (refreshed w key (cacheOf w key) state) w) j ≡ elim (b && c) as (λ _. Cache) [ true ↦ keep (stateIn (cacheOf w j) (evaluate (assigned w) (listsAt w j))) | false ↦ cacheOf w j ]
-      go true true e = rw (eqb-true j key e) (cache-refreshed (cacheOf w key) state refl)
+      go : (b c : Bool) → eqb j key ≡ c → cacheOf (cond b (refreshed w key (cacheOf w key) worked) w) j ≡ elim (b && c) as (λ _. Cache) [ true ↦ keep (stateIn (cacheOf w j) (evaluate (assigned w) (listsAt w j))) | false ↦ cacheOf w j ]
+      go true true e = rw (eqb-true j key e) (cache-refreshed (cacheOf w key) worked refl)
       go true false e =
           refreshed-leaves (λ u. cacheOf u j ≡ cacheOf w j) w key refl
           (λ s x n m a b c d. cache-else w key s x n m (key-below w k h) j (eqb-false j key e))
-          (cacheOf w key) state (evaluate-small w h key)
+          (cacheOf w key) worked (evaluate-small w h key)
       go false c e = refl
 
   mark-filled : (j : ℕ) → markOf (filled w k) j ≡ markOf w j
@@ -180,20 +180,19 @@ module _ (s w : List ℕ) (g : Beside s w) where
         size = length-put queued k 0 s ∙ g .size;
       }
 
--- what a visit leaves
-pub beside-visited : (s w : List ℕ) → Beside s w → (k : ℕ) → k < at clauseCount 0 w → Beside (visited s k) w
-unfolding visited
-beside-visited s w g k l = go (markOf s k) (seenAt s k)
+-- what the examination of a queued clause leaves
+pub beside-examined : (s w : List ℕ) → Beside s w → (k : ℕ) → k < at clauseCount 0 w → Beside (examined s k) w
+unfolding examined
+beside-examined s w g k l = go (findingAt s k)
   where
-    go : (b : Bool) (v : Finding) → Beside (visitedBy b v s (filled s k) (dropped (filled s k) k)) w
-    go false v = g
-    go true Shut = beside-dropped (filled s k) w (beside-filled s w g k) k l
-    go true (Open x n m) = beside-filled s w g k
-    go true finding.Dead = beside-filled s w g k
+    go : (v : Finding) → Beside (leftBy v (filled s k) (dropped (filled s k) k)) w
+    go Shut = beside-dropped (filled s k) w (beside-filled s w g k) k l
+    go (Open x n m) = beside-filled s w g k
+    go finding.Dead = beside-filled s w g k
 
 -- THE SIX FACTS: the words stand for a queue, at the environment and the assignment of the store that the walk began with
 pub stands : (w : List ℕ) → Stands wordOperations (envOf w) (assigned w) queueOf (λ s. Beside s w)
-unfolding seenAt
+unfolding findingAt
 stands w =
     record {
       mark-is = λ s k l g. refl;

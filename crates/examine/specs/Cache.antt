@@ -1,9 +1,9 @@
 -- The caches in the words: what an examination of a clause finds by them, and the words that it leaves.
-use mathlib.Core.Bool.{Bool, true, false, cond}
+use mathlib.Core.Bool.{cond}
 use mathlib.Core.List.{List, [], _∷_}
 use Prim.Native.Nat.{ℕ}
-use Rattle.evaluate.specs.Standing.{envOf, cacheOf, markOf, queueOf, ofClause}
-use Rattle.evaluate.specs.View.{listsAt}
+use Rattle.meaning.specs.Standing.{envOf, cacheOf, markOf, queueOf, ofClause}
+use Rattle.meaning.specs.View.{listsAt}
 use Rattle.rules.specs.Queue.{Operations, examine}
 use Rattle.rules.specs.Walk.{active, evaluate}
 use Rattle.store.specs.Area.{Write, put, puts, write}
@@ -13,8 +13,6 @@ use Rattle.rules.specs.declared.Cache.{Cache}
 use Rattle.rules.specs.declared.Cache.the-variants.{Dirty, Known}
 use Rattle.rules.specs.declared.State.{State}
 use Rattle.rules.specs.declared.State.the-variants.{Satisfied, Frontier}
-use Rattle.examine.specs.declared.Met.{Met}
-use Rattle.examine.specs.declared.Met.the-variants.{Unqueued, Dropped, Opened, Dead as MetDead}
 use Rattle.trail.specs.Assignment.{assigned}
 use Rattle.rules.specs.declared.Finding.{Finding}
 use Rattle.rules.specs.declared.Finding.the-variants.{Shut, Open}
@@ -45,8 +43,8 @@ abbrev pub clauseKey : List ℕ → ℕ → ℕ
 clauseKey w k = ofClause clauseRequirements w k
 
 -- what an examination of clause k finds: only an active clause's cache is asked
-unfoldable pub seenAt : List ℕ → ℕ → Finding
-seenAt w k = examine (envOf w) (assigned w) (queueOf w) k
+unfoldable pub findingAt : List ℕ → ℕ → Finding
+findingAt w k = examine (envOf w) (assigned w) (queueOf w) k
 
 -- "caches filled": the words after the examination of clause k
 unfoldable pub filled : List ℕ → ℕ → List ℕ
@@ -61,26 +59,15 @@ dropped w k = put queued k 0 w
 
 -- the words as a state of the walk
 abbrev pub wordOperations : Operations (List ℕ)
-wordOperations = record { mark = markOf; examine = seenAt; fill = filled; drop = dropped }
+wordOperations = record { mark = markOf; examine = findingAt; fill = filled; drop = dropped }
 
--- a visit: "A clause leaves the queue exactly when the walk examines it queued and finds it not open"
-abbrev pub metBy : Bool → Finding → Met
-metBy false v = Unqueued
-metBy true Shut = Dropped
-metBy true (Open x n m) = Opened x n m
-metBy true finding.Dead = MetDead
+-- the words that the examination of a queued clause leaves: "A clause leaves the queue exactly when the walk examines it queued and finds it
+-- not open"
+abbrev pub leftBy : Finding → List ℕ → List ℕ → List ℕ
+leftBy Shut filled dropped = dropped
+leftBy (Open x n m) filled dropped = filled
+leftBy finding.Dead filled dropped = filled
 
--- the words that a visit leaves: a clause that is shut leaves the queue
-abbrev pub visitedBy : Bool → Finding → List ℕ → List ℕ → List ℕ → List ℕ
-visitedBy false v w f d = w
-visitedBy true Shut w f d = d
-visitedBy true (Open x n m) w f d = f
-visitedBy true finding.Dead w f d = f
-
--- what a visit of clause k meets
-unfoldable pub metAt : List ℕ → ℕ → Met
-metAt w k = metBy (markOf w k) (seenAt w k)
-
--- and the words that it leaves
-unfoldable pub visited : List ℕ → ℕ → List ℕ
-visited w k = visitedBy (markOf w k) (seenAt w k) w (filled w k) (dropped (filled w k) k)
+-- of clause k
+unfoldable pub examined : List ℕ → ℕ → List ℕ
+examined w k = leftBy (findingAt w k) (filled w k) (dropped (filled w k) k)

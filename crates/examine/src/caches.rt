@@ -4,7 +4,7 @@ ghost use Prim.Native.Nat.{_≤_, _<_};
 ghost use lib.ListN.{length};
 ghost use Rattle.store.specs.Layout.{words};
 ghost use Rattle.store.specs.Limits.{requirements};
-ghost use Rattle.evaluate.specs.Standing.{cacheOf};
+ghost use Rattle.meaning.specs.Standing.{cacheOf};
 ghost use Rattle.examine.specs.Cache.{cached, saved};
 use rules::Cache;
 use rules::State;

@@ -4,7 +4,7 @@ use mathlib.Core.List.{List, []}
 use mathlib.Core.Path.{_≡_, refl, ap, sym, _∙_, fun-ext}
 use Prim.Native.Nat.{ℕ}
 use lib.Dec.{eqb}
-use Rattle.evaluate.specs.Standing.{envOf, queueOf, storeOf}
+use Rattle.meaning.specs.Standing.{envOf, queueOf, storeOf}
 use Rattle.promises.proofs.Calling.{reached-genuine, reached-on, reached-sound}
 use Rattle.imbolaverk.specs.Calls.{Call, ReachedWords, run}
 use Rattle.promises.specs.Six.{SameButMode, SameClauses, SameSix, undropped}

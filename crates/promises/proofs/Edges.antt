@@ -17,9 +17,9 @@ use Rattle.clauses.specs.Record.{behindLast}
 use Rattle.clauses.specs.Register.{knownCondition, conditionWord, literalCountOf, allNamed, hasRoom, queuedMark, recordIn, registered, registerTests}
 use Rattle.conditions.specs.Dnf.{behind, cross, nodeTerms, dnf, linked}
 use Rattle.conditions.specs.Rewrite.{tooMuch, rewriteInLengths, rewriteInCells, rewriteTests}
-use Rattle.evaluate.specs.Standing.{ofClause, cacheBy, cacheOf, markOf}
-use Rattle.evaluate.specs.View.{listAt, listsAt, literalAt, literalsAt}
-use Rattle.examine.specs.Cache.{cached, saved, seenAt, filled}
+use Rattle.meaning.specs.Standing.{ofClause, cacheBy, cacheOf, markOf}
+use Rattle.meaning.specs.View.{listAt, listsAt, literalAt, literalsAt}
+use Rattle.examine.specs.Cache.{cached, saved, findingAt, filled}
 use Rattle.promises.proofs.Stepping.{Ran, ran, run-is, runIn, stepIn}
 use Rattle.proposal.specs.Propose.{answer, proposalIn, proposalInStore, unsynced}
 use Rattle.requirement.specs.Copy.{tabled}
@@ -27,7 +27,7 @@ use Rattle.requirement.specs.Load.{adds, known, fitting, putLists, tableAt, loa
 use Rattle.requirement.specs.Tables.{requirementOf, firstSlot, setCount, listCount, setOf, cellsOf}
 use Rattle.rules.specs.Queue.{examine, queuedTurn}
 use Rattle.rules.specs.Sync.{meets, mentions}
-use Rattle.rules.specs.Walk.{member, allFalse, flattened, firstTrue, firstUndecided, countUndecided, frontier, evaluate, largest, anyHot, upTo}
+use Rattle.rules.specs.Walk.{member, allFalse, flattened, firstThat, countUndecided, frontier, evaluate, largest, anyHot, upTo}
 use Rattle.rules.specs.Activity.{good, admitted}
 use Rattle.settings.specs.Settings.{activityWith, quiet, activityOn, activityOnStore, activityTests}
 use Rattle.store.specs.Area.{area, at, put, putRun, blank}
@@ -37,7 +37,7 @@ use Rattle.rules.specs.Numbers.{allFrom, from}
 use Rattle.store.specs.Ranks.{moved, inserted}
 use Rattle.store.specs.Shape.{every}
 use Rattle.sync.specs.Sweep.{sweep}
-use Rattle.sync.specs.Sync.{wordsFrom, oldEntries, newEntries, touchedIn, touchesIn, wakesAt, spoilsAt, wokenWords, spoiledWords, sweptWords, copiedWords, mirroredWords, syncInStore}
+use Rattle.sync.specs.Sync.{oldEntries, newEntries, touchedIn, touchesIn, wakesAt, spoilsAt, wokenWords, spoiledWords, sweptWords, copiedWords, mirroredWords, syncInStore}
 use Rattle.tables.specs.Answer.{loaded}
 use Rattle.tables.specs.Condition.{leafIn, branchIn, leafed, branched, nodePut, loadConditionTests}
 use Rattle.tables.specs.Disjunction.{literalsOf}
@@ -125,7 +125,7 @@ unfoldable onwardOf : Ran → List (List (List ℕ))
 onwardOf r = r .said ∷ eachIn (r .left) onward
 
 computed : (eachIn first alone ≡ map expected alone) × (onwardOf third ≡ map expected (p3 ∷ onward))
-unfolding otherName newName nameCount newNames distinctNames behindLast knownCondition conditionWord literalCountOf allNamed hasRoom registerTests queuedMark recordIn registered behind cross nodeTerms dnf linked lengthsOf joined tooMuch rewriteTests over rewriteInLengths rewriteInCells ofClause cacheBy cacheOf markOf assigned from listAt listsAt literalAt literalsAt cached saved seenAt filled proposalIn proposalInStore runIn stepIn answer unsynced tabled adds known fitting loadTests putLists tableAt loadedSingle loadedUnion tableMade requirementOf firstSlot setCount listCount setOf cellsOf examine queuedTurn upTo mentions meets member allFalse flattened firstTrue firstUndecided countUndecided frontier evaluate largest anyHot good admitted activityWith quiet activityOn activityOnStore activityTests area at put putRun blank freshWords allFrom moved inserted every sweep wordsFrom oldEntries newEntries touchedIn touchesIn wakesAt spoilsAt wokenWords spoiledWords sweptWords copiedWords mirroredWords syncInStore loaded leafIn branchIn loadConditionTests leafed branched nodePut literalsOf loadVersionSetTests assignOn assignTests pushed cellValue cellSide cellLevel cellOf decisionAt levelAt levelOfLast entryAbove popped undoLastTests poppedTo cleared noStop undoUntilTests odd ofFields ofBits toBits size climb span onwardOf
+unfolding otherName newName nameCount newNames distinctNames behindLast knownCondition conditionWord literalCountOf allNamed hasRoom registerTests queuedMark recordIn registered behind cross nodeTerms dnf linked lengthsOf joined tooMuch rewriteTests over rewriteInLengths rewriteInCells ofClause cacheBy cacheOf markOf assigned from listAt listsAt literalAt literalsAt cached saved findingAt filled proposalIn proposalInStore runIn stepIn answer unsynced tabled adds known fitting loadTests putLists tableAt loadedSingle loadedUnion tableMade requirementOf firstSlot setCount listCount setOf cellsOf examine queuedTurn upTo mentions meets member allFalse flattened firstThat countUndecided frontier evaluate largest anyHot good admitted activityWith quiet activityOn activityOnStore activityTests area at put putRun blank freshWords allFrom moved inserted every sweep oldEntries newEntries touchedIn touchesIn wakesAt spoilsAt wokenWords spoiledWords sweptWords copiedWords mirroredWords syncInStore loaded leafIn branchIn loadConditionTests leafed branched nodePut literalsOf loadVersionSetTests assignOn assignTests pushed cellValue cellSide cellLevel cellOf decisionAt levelAt levelOfLast entryAbove popped undoLastTests poppedTo cleared noStop undoUntilTests odd ofFields ofBits toBits size climb span onwardOf
 computed = (refl, refl)
 
 alone-say : each start alone ≡ map expected alone

@@ -5,8 +5,8 @@ use mathlib.Core.Logic.{_≢_}
 use mathlib.Core.Path.{_≡_, ap, sym, _∙_}
 use Prim.Native.Nat.{ℕ, _+_, _-_, _*_, _≤_, _<_}
 use lib.Dec.{T}
-use Rattle.evaluate.proofs.Frames.{assigned-same, trail-same}
-use Rattle.evaluate.specs.Standing.{storeOf, trailOf}
+use Rattle.meaning.proofs.Frames.{assigned-same, trail-same}
+use Rattle.meaning.specs.Standing.{storeOf, trailOf}
 use Rattle.rules.proofs.Map.{Grown}
 use Rattle.rules.specs.Store.{Reached}
 use Rattle.rules.specs.Sync.{Entry, value}

@@ -8,9 +8,9 @@ use borrow.Author.Tests.{le-leb}
 use lib.ListN.{length}
 use Rattle.clauses.proofs.Registers.{done-placed}
 use Rattle.clauses.specs.Register.{Placed, conditionWord, registerOut, registerStore, registerTests, registered}
-use Rattle.evaluate.proofs.Records.{clause-none}
-use Rattle.evaluate.specs.Standing.{envOf, ofClause, storeOf}
-use Rattle.evaluate.specs.View.{literalsAt}
+use Rattle.meaning.proofs.Records.{clause-none}
+use Rattle.meaning.specs.Standing.{envOf, ofClause, storeOf}
+use Rattle.meaning.specs.View.{literalsAt}
 use Rattle.promises.proofs.Rows.{judged-both}
 use Rattle.promises.proofs.Calling.{call-genuine}
 use Rattle.promises.proofs.Clauses.{by-outside, load-candidates-clauses, load-condition-clauses, load-disjunction-clauses, load-union-clauses, load-version-set-clauses}

@@ -15,10 +15,10 @@ use Rattle.clauses.proofs.ReadBack.{Shifted, shifted-each, parent-shifted, requ
 use Rattle.clauses.proofs.Registers.{left-either}
 use Rattle.clauses.specs.Record.{behindLast, rankOf}
 use Rattle.clauses.specs.Register.{knownCondition, conditionWord, Placed, queuedMark, registered, registerInStore, registerStore}
-use Rattle.evaluate.proofs.Frames.{cachesRegion, lists-same, literals-same, cache-same, mirror-same, trail-same}
-use Rattle.evaluate.proofs.Records.{clause-word, clause-none}
-use Rattle.evaluate.specs.Standing.{markOf, ofClause, storeOf, trailOf}
-use Rattle.evaluate.specs.View.{literalsAt}
+use Rattle.meaning.proofs.Frames.{cachesRegion, lists-same, literals-same, cache-same, mirror-same, trail-same}
+use Rattle.meaning.proofs.Records.{clause-word, clause-none}
+use Rattle.meaning.specs.Standing.{markOf, ofClause, storeOf, trailOf}
+use Rattle.meaning.specs.View.{literalsAt}
 use Rattle.promises.proofs.Genuine.{Genuine, Mapped, AllLoaded, mapped-frame, all-loaded-by-tables}
 use Rattle.requirement.specs.Tables.{keyAt}
 use Rattle.rules.proofs.Ranks.{inserted-above, inserted-at, inserted-below}

@@ -8,9 +8,8 @@ use Prim.Native.Nat.{ℕ, zero, suc, _+_, _-_, _*_, _≤_, _<_}
 use native.Mathlib.Omega.{arith}
 use borrow.Author.Tests.{eqb-false}
 use lib.Dec.{T, eqb, eqb→eq}
-use Rattle.evaluate.proofs.Froms.{length-mirror, length-trail}
-use Rattle.evaluate.specs.Standing.{envOf, markOf, queueOf}
-use Rattle.evaluate.specs.View.{listAt, listsAt}
+use Rattle.meaning.specs.Standing.{envOf, markOf, queueOf}
+use Rattle.meaning.specs.View.{listAt, listsAt}
 use Rattle.examine.proofs.Stand.{at-beside}
 use Rattle.promises.proofs.Calling.{reached-genuine, reached-sound}
 use Rattle.promises.proofs.Demands.{demand2, one-proposal, reached-holds}
@@ -49,6 +48,7 @@ use Rattle.rules.specs.Numbers.{from}
 use Rattle.rules.specs.declared.Finding.the-variants.{Shut}
 use Rattle.rules.specs.declared.Out.the-variants as out
 use Rattle.rules.specs.declared.Finding.the-variants as finding
+use Rattle.meaning.proofs.Lists.{length-mirror, length-trail}
 
 -- 7: "a proposal is asked of an unsynced store", exactly
 pub unsynced-exactly : (w : List ℕ) → soundShape w ≡ true → (numberOf w propose ≡ 7) ↔ (unsynced w ≡ true)

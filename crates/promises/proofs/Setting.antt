@@ -5,8 +5,8 @@ use mathlib.Core.Path.{_≡_, refl, sym, subst}
 use Prim.Native.Nat.{ℕ}
 use lib.Dec.{T}
 use lib.Ieee.{Float, binary32, fits}
-use Rattle.evaluate.proofs.Frames.{clauses-same, env-tuned, mirror-same, queue-same, trail-same}
-use Rattle.evaluate.specs.Standing.{envOf, storeOf}
+use Rattle.meaning.proofs.Frames.{clauses-same, env-tuned, mirror-same, queue-same, trail-same}
+use Rattle.meaning.specs.Standing.{envOf, storeOf}
 use Rattle.promises.proofs.Genuine.{Genuine, mapped-frame, all-loaded-same}
 use Rattle.rules.specs.Store.{Reached, then, tuned, tunes}
 use Rattle.settings.proofs.Kept.{activity-outside, activity-sound, hot-outside, hot-sound, mode-outside, mode-sound}

@@ -7,10 +7,9 @@ use Prim.Native.Nat.{ℕ, _+_, _-_, _*_, _≤_, _<_}
 use native.Mathlib.Omega.{arith}
 use borrow.Author.Tests.{lt-ltb, le-ltb, eq-eqb, ne-eqb}
 use lib.Dec.{T, eqb}
-use Rattle.evaluate.proofs.Frames.{mirror-same, queue-same, trail-same}
-use Rattle.evaluate.proofs.Froms.{from-agree}
-use Rattle.evaluate.specs.Standing.{envOf, ofClause, queueOf, storeOf}
-use Rattle.evaluate.specs.View.{listAt, listsAt, literalAt, literalsAt}
+use Rattle.meaning.proofs.Frames.{mirror-same, queue-same, trail-same}
+use Rattle.meaning.specs.Standing.{envOf, ofClause, queueOf, storeOf}
+use Rattle.meaning.specs.View.{listAt, listsAt, literalAt, literalsAt}
 use Rattle.promises.proofs.Genuine.{Genuine, AllLoaded, mapped-frame}
 use Rattle.requirement.proofs.Kept.{tableRegion}
 use Rattle.requirement.proofs.Views.{listed-sets}
@@ -25,6 +24,7 @@ use Rattle.store.specs.Limits.{names, requirements, unionRoom, unions, versionS
 use Rattle.store.specs.Shape.{Sound}
 use Rattle.tables.proofs.BesideTables.{Beside}
 use Rattle.rules.specs.Numbers.{from}
+use Rattle.rules.proofs.Froms.{from-agree}
 
 -- the words of version sets and unions, and those of disjunctions; `tableRegion` has those of the candidate tables
 abbrev pub setsRegion : Area

@@ -13,8 +13,7 @@ use lib.ListN.{length}
 use Rattle.clauses.proofs.ReadBack.{Shifted}
 use Rattle.clauses.specs.Names.{distinctNames, nameCount, newName, newNames, otherName}
 use Rattle.clauses.specs.Register.{conditionWord, literalCountOf}
-use Rattle.evaluate.proofs.Froms.{length-from}
-use Rattle.evaluate.specs.View.{literalAt, literalsAt}
+use Rattle.meaning.specs.View.{literalAt, literalsAt}
 use Rattle.promises.proofs.Genuine.{AllLoaded}
 use Rattle.promises.proofs.Stays.{LiteralsStay, SetsStay, TablesStay, set-stays, union-known}
 use Rattle.promises.specs.Totals.{conditionNamed, overClauses, storedLiterals, sum}
@@ -26,6 +25,7 @@ use Rattle.store.specs.Layout.{clauseCount, disjunctionSizes, setNames, tablesL
 use Rattle.store.specs.Limits.{disjunctions, lastWord, versionSets}
 use Rattle.rules.specs.Numbers.{allFrom}
 use Rattle.tables.specs.Disjunction.{literalsOf}
+use Rattle.rules.proofs.Froms.{length-from}
 
 -- SUMS: of the same numbers, and of numbers with one put in at a place
 pub sum-same : (f g : ℕ → ℕ) (n : ℕ) → ((k : ℕ) → k < n → f k ≡ g k) → sum f n ≡ sum g n

@@ -8,8 +8,8 @@ use native.Mathlib.Omega.{arith}
 use borrow.Author.Tests.{le-leb, lt-leb, ne-eqb}
 use lib.Dec.{T, leb, eqb}
 use lib.ListN.{length, take}
-use Rattle.evaluate.proofs.Frames.{assigned-same, entry-by, env-same, mirror-same, queue-same, trail-by}
-use Rattle.evaluate.specs.Standing.{entryAt, storeOf, trailOf}
+use Rattle.meaning.proofs.Frames.{assigned-same, entry-by, env-same, mirror-same, queue-same, trail-by}
+use Rattle.meaning.specs.Standing.{entryAt, storeOf, trailOf}
 use Rattle.promises.proofs.Genuine.{Genuine, Mapped, mapped-same, all-loaded-frame}
 use Rattle.promises.proofs.Trails.{mapped-none, mapped-popped, mapped-pushed, trail-cut, trail-none, trail-pushed}
 use Rattle.rules.specs.Store.{Reached, Step, Store, push, same, then, undo}

@@ -10,8 +10,7 @@ use borrow.Author.Tests.{eqb-true, eqb-false}
 use lib.Dec.{eqb}
 use lib.ListN.{getD, take}
 use lib.Seq.{take-all}
-use Rattle.evaluate.proofs.Froms.{from-agree, from-more, getD-from, length-trail, take-from}
-use Rattle.evaluate.specs.Standing.{entryAt, trailOf}
+use Rattle.meaning.specs.Standing.{entryAt, trailOf}
 use Rattle.promises.proofs.Genuine.{Mapped}
 use Rattle.rules.proofs.Map.{Grown, cut-grown, none, pop-map, push-grown, push-map}
 use Rattle.rules.specs.Store.{changed}
@@ -22,6 +21,8 @@ use Rattle.trail.specs.Cell.{cellValue}
 use Rattle.rules.specs.declared.Value.the-variants.{Undecided}
 use Rattle.trail.specs.Assignment.{assigned}
 use Rattle.rules.specs.Numbers.{from}
+use Rattle.rules.proofs.Froms.{from-agree, from-more, getD-from, take-from}
+use Rattle.meaning.proofs.Lists.{length-trail}
 
 -- the trail's length and its entries
 trail-variable : (w : List ℕ) (k : ℕ) → k < at trailLength 0 w → (getD (trailOf w) k none) .variable ≡ at trailVariables k w

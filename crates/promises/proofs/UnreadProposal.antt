@@ -3,10 +3,10 @@ use mathlib.Core.Bool.{not}
 use mathlib.Core.List.{List}
 use mathlib.Core.Path.{_≡_, refl, ap, subst}
 use Prim.Native.Nat.{ℕ}
-use Rattle.evaluate.proofs.Frames.{assigned-same, cache-same, cachesRegion, clause-same, env-same, lists-same, mark-same, queue-same}
-use Rattle.evaluate.specs.Standing.{cacheOf, envOf, markOf, ofClause, queueOf}
-use Rattle.evaluate.specs.View.{listsAt}
-use Rattle.examine.specs.Cache.{cacheWrites, cached, clauseKey, filled, refreshed, saved, seenAt, wordOperations}
+use Rattle.meaning.proofs.Frames.{assigned-same, cache-same, cachesRegion, clause-same, env-same, lists-same, mark-same, queue-same}
+use Rattle.meaning.specs.Standing.{cacheOf, envOf, markOf, ofClause, queueOf}
+use Rattle.meaning.specs.View.{listsAt}
+use Rattle.examine.specs.Cache.{cacheWrites, cached, clauseKey, filled, refreshed, saved, findingAt, wordOperations}
 use Rattle.imbolaverk.specs.Calls.{numberOf, propose, valuesOf}
 use Rattle.promises.proofs.UnreadWords.{Alike, area-alike, at-alike, either-alike, put-alike, puts-alike, sound-alike}
 use Rattle.proposal.specs.Propose.{answer, proposalIn, proposalInStore, proposalStore, told, unsynced}
@@ -51,8 +51,8 @@ module _ (w u : List ℕ) (e : Alike w u) where
   mark-alike : (k : ℕ) → markOf w k ≡ markOf u k
   mark-alike = mark-same w u (area-alike w u e queueRegion refl) (at-alike w u e clauseCount 0 refl)
 
-  seen-alike : (k : ℕ) → seenAt w k ≡ seenAt u k
-  unfolding seenAt
+  seen-alike : (k : ℕ) → findingAt w k ≡ findingAt u k
+  unfolding findingAt
   seen-alike k = rw (env-alike, assigned-alike, queue-alike)
 
   pub cache-alike : (key : ℕ) → cacheOf w key ≡ cacheOf u key

@@ -2,7 +2,7 @@
 use mathlib.Core.Bool.{Bool}
 use mathlib.Core.List.{List}
 use Prim.Native.Nat.{ℕ}
-use Rattle.evaluate.specs.Standing.{envOf, markOf}
+use Rattle.meaning.specs.Standing.{envOf, markOf}
 use Rattle.rules.specs.Leaving.{Dies as DiesAt, examined as examinedBy}
 use Rattle.rules.specs.Queue.{tally}
 use Rattle.proposal.specs.declared.Proposal.{Proposal}

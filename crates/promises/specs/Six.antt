@@ -3,8 +3,8 @@
 use mathlib.Core.List.{List}
 use mathlib.Core.Path.{_≡_}
 use Prim.Native.Nat.{ℕ}
-use Rattle.evaluate.specs.Standing.{ofClause}
-use Rattle.evaluate.specs.View.{listsAt, literalsAt}
+use Rattle.meaning.specs.Standing.{ofClause}
+use Rattle.meaning.specs.View.{listsAt, literalsAt}
 use Rattle.store.specs.Area.{at}
 use Rattle.store.specs.Layout.{activities, clauseConditions, clauseCount, clauseIds, clauseParents, clauseRequirements, hotNames, mode}
 use Rattle.proposal.specs.declared.Proposal.{Proposal}

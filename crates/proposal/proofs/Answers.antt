@@ -5,8 +5,7 @@ use mathlib.Core.Path.{_≡_, ap, _∙_}
 use Prim.Native.Nat.{ℕ}
 use borrow.Author.Tests.{ltb-false}
 use lib.Dec.{ltb}
-use Rattle.evaluate.proofs.Froms.{length-mirror, length-trail}
-use Rattle.evaluate.specs.Standing.{envOf, queueOf, storeOf}
+use Rattle.meaning.specs.Standing.{envOf, queueOf, storeOf}
 use Rattle.proposal.proofs.Kept.{answer-along}
 use Rattle.proposal.specs.Propose.{answer, proposalIn, told, unsynced}
 use Rattle.rules.proofs.Same.{same-walk}
@@ -19,6 +18,7 @@ use Rattle.store.specs.Layout.{mirrorLength, syncFloor, trailLength}
 use Rattle.store.specs.Shape.{Sound}
 use Rattle.rules.specs.declared.Out.{Out}
 use Rattle.trail.specs.Assignment.{assigned}
+use Rattle.meaning.proofs.Lists.{length-mirror, length-trail}
 
 module _ (w : List ℕ) (h : Sound w) (q : Holds (envOf w) (assigned w) [] (queueOf w)) where
   -- where the queue is right for the assignment, the answer is the walk over every clause: the words answer as the queue, the queue as the walk

@@ -1,6 +1,6 @@
 pub mod Steps
-pub mod Unrolling
-pub mod Loops
-pub mod Skipping
 pub mod Kept
+pub mod Walking
+pub mod Weighing
+pub mod Telling
 pub mod Answers

@@ -1,5 +1,5 @@
 -- What each test of the walk's code says of the definitions. Assumes nothing.
-use mathlib.Core.Bool.{Bool, true, false, not, _||_}
+use mathlib.Core.Bool.{Bool, true, false, cond, not, _&&_, _||_}
 use mathlib.Core.List.{List}
 use mathlib.Core.Logic.{_≢_}
 use mathlib.Core.Path.{_≡_, refl, sym, ap, _∙_}
@@ -8,14 +8,14 @@ use native.Mathlib.Numerals.{add-one}
 use native.Mathlib.Omega.{arith}
 use borrow.Author.Tests.{eq-eqb, ne-eqb, lt-ltb, le-ltb}
 use lib.Dec.{eqb, ltb}
-use Rattle.evaluate.proofs.Records.{clause-word}
-use Rattle.evaluate.proofs.Turns.{from-next, from-done}
-use Rattle.evaluate.specs.Standing.{envOf}
-use Rattle.evaluate.specs.View.{listAt, listsAt}
+use Rattle.meaning.proofs.Records.{clause-word}
+use Rattle.rules.proofs.Froms.{from-next, from-done}
+use Rattle.meaning.specs.Standing.{envOf}
+use Rattle.meaning.specs.View.{listAt, listsAt}
 use Rattle.proposal.specs.Propose.{unsynced}
 use Rattle.proposal.specs.Turn.{bestAt, coldAt, hotAt, largestAt, passedAt, shieldedAt, stopsAt, topAt}
 use Rattle.requirement.specs.Tables.{firstSlot, listCount, nameOf, setOf}
-use Rattle.rules.specs.Walk.{anyHot, better, largest}
+use Rattle.rules.specs.Walk.{anyHot, largest, narrow, shields, stopsBy}
 use Rattle.rules.proofs.Choice.{or-none, or-true}
 use Rattle.store.specs.Area.{at}
 use Rattle.store.specs.Layout.{activities, clauseCount, clauseParents, clauseRequirements, hotNames, mirrorLength, mode, setNames, syncFloor, trailLength}
@@ -48,23 +48,23 @@ pub hot-is : (w : List ℕ) (k key t n : ℕ) → k < at clauseCount 0 w → key
 unfolding listsAt hotAt
 hot-is w k key t n l e f g = rw (clause-word clauseRequirements w k l, ← e, f, g)
 
--- the mode
-module _ (w : List ℕ) (x : ℕ) (e : x ≡ at mode 0 w) where
-  pub is-standard : x ≡ 1 → envOf w .standard ≡ true
-  is-standard h = rw (← e, eq-eqb x 1 h)
-
-  pub not-standard : x ≢ 1 → envOf w .standard ≡ false
-  not-standard h = rw (← e, ne-eqb x 1 h)
+-- the mode: the walk is narrow in standard mode
+pub narrow-by : (w : List ℕ) (x : ℕ) → x ≡ at mode 0 w → eqb x 1 ≡ narrow (envOf w)
+narrow-by w x e = rw (← e) (and-true (eqb x 1))
+  where
+    and-true : (b : Bool) → b ≡ b && true
+    and-true true = refl
+    and-true false = refl
 
 -- which clauses are passed over
 module _ (w : List ℕ) (k : ℕ) where
-  pub cold-by : (h : Bool) → envOf w .standard ≡ true → h ≡ hotAt w k → not h ≡ coldAt w k
+  pub cold-by : (n h : Bool) → n ≡ narrow (envOf w) → n ≡ true → h ≡ hotAt w k → not h ≡ coldAt w k
   unfolding hotAt coldAt
-  cold-by h p q = rw (p, q)
+  cold-by n h e p q = rw (sym e ∙ p, q)
 
-  pub cold-not : envOf w .standard ≡ false → false ≡ coldAt w k
+  pub cold-not : (n : Bool) → n ≡ narrow (envOf w) → n ≡ false → false ≡ coldAt w k
   unfolding coldAt
-  cold-not p = rw p
+  cold-not n e p = rw (sym e ∙ p)
 
 module _ (w : List ℕ) (b : Best) (k : ℕ) where
   passed-is : passedAt w b k ≡ coldAt w k || shieldedAt w b k
@@ -77,14 +77,9 @@ module _ (w : List ℕ) (b : Best) (k : ℕ) where
   pub passed-cold : shieldedAt w b k ≡ false → coldAt w k ≡ passedAt w b k
   passed-cold p = sym (passed-is ∙ ap (λ t. coldAt w k || t) p ∙ or-none (coldAt w k))
 
-  module _ (l : k < at clauseCount 0 w) (m : b .clause < at clauseCount 0 w) (j x : ℕ) (e : j ≡ b .clause) (q : x ≡ at clauseParents j w) where
-    pub shielded-by : (y : ℕ) → x ≡ 0 → y ≡ at clauseParents k w → not (eqb y 0) ≡ shieldedAt w b k
-    unfolding shieldedAt
-    shielded-by y z r = rw (clause-word clauseParents w k l, clause-word clauseParents w (b .clause) m, ← e, ← q, ← r, eq-eqb x 0 z)
-
-    pub shielded-not : x ≢ 0 → false ≡ shieldedAt w b k
-    unfolding shieldedAt
-    shielded-not z = rw (clause-word clauseParents w (b .clause) m, ← e, ← q, ne-eqb x 0 z)
+  pub shielded-by : k < at clauseCount 0 w → b .clause < at clauseCount 0 w → (j x y : ℕ) → j ≡ b .clause → x ≡ at clauseParents j w → y ≡ at clauseParents k w → shields x y ≡ shieldedAt w b k
+  unfolding shieldedAt
+  shielded-by l m j x y e q r = rw (clause-word clauseParents w k l, clause-word clauseParents w (b .clause) m, ← e, ← q, ← r)
 
 -- the largest activity so far
 module _ (w : List ℕ) (i t a : ℕ) (is : t ≡ largestAt w i) (next : a ≡ at activities i w) where
@@ -115,49 +110,40 @@ module _ (w : List ℕ) (h : Sound w) where
   unfolding largestAt
   largest-good n t e = rw e (largest-most (envOf w .activity) lastActivity n (h .ranges activities lastActivity tt))
 
-  pub top-good : (t : ℕ) → envOf w .standard ≡ true → t ≡ topAt w → t ≤ lastActivity
+  pub top-good : (t : ℕ) → t ≡ topAt w → t ≤ lastActivity
   unfolding topAt
-  top-good t s e = largest-good names t (e ∙ rw s)
+  top-good t e = rw e (go (narrow (envOf w)))
+    where
+      go : (b : Bool) → cond b (largestAt w names) 0 ≤ lastActivity
+      go true = largest-good names (largestAt w names) refl
+      go false = omega arith
 
-pub top-standard : (w : List ℕ) → envOf w .standard ≡ true → largestAt w names ≡ topAt w
+pub top-narrow : (w : List ℕ) (n : Bool) → n ≡ narrow (envOf w) → n ≡ true → largestAt w names ≡ topAt w
 unfolding topAt
-top-standard w s = rw s
+top-narrow w n e p = rw (sym e ∙ p)
 
-pub top-else : (w : List ℕ) → envOf w .standard ≡ false → 0 ≡ topAt w
+pub top-else : (w : List ℕ) (n : Bool) → n ≡ narrow (envOf w) → n ≡ false → 0 ≡ topAt w
 unfolding topAt
-top-else w s = rw s
+top-else w n e p = rw (sym e ∙ p)
 
--- where the walk stops
+-- where the walk stops: only a narrow walk asks for the largest activity
 module _ (w : List ℕ) (b : Best) where
   pub stop-one : b .count ≡ 1 → true ≡ stopsAt w b
   unfolding stopsAt
   stop-one h = rw (eq-eqb (b .count) 1 h)
 
-  pub stop-top : (t : ℕ) → b .count ≢ 1 → envOf w .standard ≡ true → t ≡ topAt w → eqb (b .activity) t ≡ stopsAt w b
-  unfolding stopsAt largestAt
-  stop-top t h s q =
-      let z : t ≡ largest (envOf w .activity) names = q ∙ sym (top-standard w s) in
-      rw (ne-eqb (b .count) 1 h, s, z)
-
-  pub stop-not : b .count ≢ 1 → envOf w .standard ≡ false → false ≡ stopsAt w b
-  unfolding stopsAt
-  stop-not h s = rw (ne-eqb (b .count) 1 h, s)
+  pub stop-by : (n : Bool) (t : ℕ) → n ≡ narrow (envOf w) → t ≡ topAt w → stopsBy n t b ≡ stopsAt w b
+  unfolding stopsAt topAt largestAt
+  stop-by n t e q = rw (e, q) (go (narrow (envOf w)))
+    where
+      go : (c : Bool) → stopsBy c (cond c (largest (envOf w .activity) names) 0) b ≡ stopsBy c (largest (envOf w .activity) names) b
+      go true = refl
+      go false = refl
 
 -- a clause as a best
 pub best-is : (w : List ℕ) (k x n m a : ℕ) → a ≡ at activities n w → record { clause = k; candidate = x; activity = a; count = m } ≡ bestAt w k x n m
 unfolding bestAt
 best-is w k x n m a e = rw e
-
--- the better of two
-module _ (b d : Best) where
-  pub better-new : ltb (b .activity) (d .activity) ≡ true → d .count < b .count → d ≡ better 1 b d
-  better-new h i = rw (h, lt-ltb (d .count) (b .count) i)
-
-  pub better-few : ltb (b .activity) (d .activity) ≡ true → b .count ≤ d .count → b ≡ better 1 b d
-  better-few h i = rw (h, le-ltb (d .count) (b .count) i)
-
-  pub better-low : ltb (b .activity) (d .activity) ≡ false → b ≡ better 1 b d
-  better-low h = rw h
 
 -- unsynced
 module _ (w : List ℕ) (f m : ℕ) (e : f ≡ at syncFloor 0 w) (q : m ≡ at mirrorLength 0 w) where

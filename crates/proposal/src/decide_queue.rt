@@ -1,5 +1,6 @@
 // The walk over the queued clauses of a store of sound shape, in position order. The crate's public call tests the shape
 // and that it is synced, and then calls `propose`.
+ghost use mathlib.Core.Bool.{true};
 ghost use mathlib.Core.Path.{_≡_};
 ghost use Prim.Native.Nat.{_+_, _-_, _≤_, _<_};
 ghost use lib.ListN.{length};
@@ -7,20 +8,21 @@ ghost use Rattle.store.specs.Area.{at};
 ghost use Rattle.store.specs.Layout.{words, activities, clauseCount, clauseIds};
 ghost use Rattle.store.specs.Limits.{clauses, lists, names};
 ghost use Rattle.store.specs.Shape.{Sound};
-ghost use Rattle.rules.specs.Walk.{anyHot, better};
-ghost use Rattle.evaluate.specs.Standing.{envOf};
-ghost use Rattle.evaluate.specs.View.{listAt};
-ghost use Rattle.proposal.specs.Turn.{hotAt, coldAt, shieldedAt, passedAt, largestAt, topAt, stopsAt, bestAt, weighOf, weighed, Fine, nextQueued};
-ghost use Rattle.proposal.specs.Propose.{choosing, dying, fromRank, answer, ended, Sane, proposalIn, proposalInStore};
 ghost use Rattle.rules.specs.Activity.{lastActivity};
 ghost use Rattle.rules.specs.Numbers.{from};
+ghost use Rattle.rules.specs.Walk.{anyHot, narrow};
+ghost use Rattle.meaning.specs.Standing.{envOf, markOf};
+ghost use Rattle.meaning.specs.View.{listAt};
+ghost use Rattle.proposal.specs.Turn.{hotAt, coldAt, shieldedAt, passedAt, largestAt, topAt, stopsAt, bestAt, weighOf, weighed, Fine, nextQueued};
+ghost use Rattle.proposal.specs.Propose.{choosing, dying, fromRank, answer, ended, Sane, Numbered, proposalIn, proposalInStore};
 use crate::Proposal;
-use examine::Met;
-use examine::inspection;
+use clauses::records;
+use examine::examination;
 use requirement::candidates;
 use rules::Best;
+use rules::Finding;
 use rules::Out;
-use settings::activity;
+use rules::selection;
 use store::codes;
 use store::limits;
 use store::read;
@@ -30,7 +32,7 @@ use store::wide;
 pub enum Weighed {
     On(Best, u32),
     Enough,
-    Fatal,
+    Dead,
 }
 
 // The walk's answer, and the number of clauses that it dropped.
@@ -66,12 +68,20 @@ fn is_hot(s: &[u32], k: usize) -> bool
     any_hot(s, slot, n)
 }
 
-// Whether the mode is standard and a clause is cold.
+// Whether the walk keeps to hot clauses and stops at the largest activity.
+fn is_narrow(s: &[u32]) -> bool
+    requires { ⌜ words ≤ length (now s) ⌝ }
+    ensures { λ r. ⌜ r ≡ narrow (envOf (now (s .entry))) ⌝ }
+{
+    read::mode(s) == codes::STANDARD
+}
+
+// Whether the walk keeps to hot clauses and a clause is cold.
 fn is_cold(s: &[u32], k: usize) -> bool
     requires { ⌜ (Sound (now s)) × (k < at clauseCount 0 (now s)) ⌝ }
     ensures { λ r. ⌜ r ≡ coldAt (now (s .entry)) k ⌝ }
 {
-    if read::mode(s) == codes::STANDARD {
+    if is_narrow(s) {
         return !is_hot(s, k);
     }
     false
@@ -82,10 +92,8 @@ fn is_shielded(s: &[u32], b: Best, k: usize) -> bool
     requires { ⌜ (Sound (now s)) × (k < at clauseCount 0 (now s)) × (b .clause < at clauseCount 0 (now s)) ⌝ }
     ensures { λ r. ⌜ r ≡ shieldedAt (now (s .entry)) b k ⌝ }
 {
-    if read::parent(s, wide(b.clause)) == codes::ROOT {
-        return read::parent(s, k) != codes::ROOT;
-    }
-    false
+    let above = read::parent(s, wide(b.clause));
+    selection::is_shielded(above, read::parent(s, k))
 }
 
 // Whether a clause is passed over after a best.
@@ -116,12 +124,12 @@ fn largest_of(s: &[u32], n: usize) -> u32
     top
 }
 
-// The largest activity, which only standard mode asks for.
+// The largest activity, which only a narrow walk asks for.
 fn top(s: &[u32]) -> u32
     requires { ⌜ Sound (now s) ⌝ }
     ensures { λ r. ⌜ r ≡ topAt (now (s .entry)) ⌝ }
 {
-    if read::mode(s) == codes::STANDARD {
+    if is_narrow(s) {
         return largest_of(s, limits::NAMES);
     }
     0
@@ -132,26 +140,7 @@ fn stops(s: &[u32], b: Best, highest: u32) -> bool
     requires { ⌜ (Sound (now s)) × (b .activity ≤ lastActivity) × (highest ≡ topAt (now s)) ⌝ }
     ensures { λ r. ⌜ r ≡ stopsAt (now (s .entry)) b ⌝ }
 {
-    if b.count == 1 {
-        return true;
-    }
-    if read::mode(s) == codes::STANDARD {
-        return activity::same(b.activity, highest);
-    }
-    false
-}
-
-// The better of two: the second if its activity is strictly higher and its count strictly lower.
-fn better_of(b: Best, d: Best) -> Best
-    requires { ⌜ (b .activity ≤ lastActivity) × (d .activity ≤ lastActivity) ⌝ }
-    ensures { λ r. ⌜ r ≡ better 1 b d ⌝ }
-{
-    if activity::higher(b.activity, d.activity) {
-        if d.count < b.count {
-            return d;
-        }
-    }
-    b
+    selection::stops(b, is_narrow(s), highest)
 }
 
 // The bits of a name's activity.
@@ -179,35 +168,31 @@ fn best_of(s: &[u32], k: u32, candidate: u32, name: u32, count: u32) -> Best
     }
 }
 
-// One clause after the first best, where `highest` is the largest activity.
+// One queued clause after the first best, where `highest` is the largest activity.
 fn weigh(s: &mut [u32], b: Best, highest: u32, rank: u32) -> Weighed
     requires { ⌜ (Sound (now s)) × (rank < at clauseCount 0 (now s)) × (Fine (now s) b) × (highest ≡ topAt (now s)) ⌝ }
     ensures { λ r. ⌜ (r ≡ weighOf (now (s .entry)) b rank) × (now (s .exit) ≡ weighed (now (s .entry)) b rank) ⌝ }
 {
-    let k = wide(rank);
-    if read::queued(s, k) != 1 {
-        return Weighed::On(b, 0);
-    }
     if stops(s, b, highest) {
         return Weighed::Enough;
     }
+    let k = wide(rank);
     if passed_over(s, b, k) {
         return Weighed::On(b, 0);
     }
-    let met = inspection::visit(s, k);
-    match met {
-        Met::Unqueued => Weighed::On(b, 0),
-        Met::Dropped => Weighed::On(b, 1),
-        Met::Opened {
+    let found = examination::examine_queued(s, k);
+    match found {
+        Finding::Shut => Weighed::On(b, 1),
+        Finding::Open {
             candidate,
             name,
             count,
         } => {
             let d = best_of(s, rank, candidate, name, count);
-            let best = better_of(b, d);
+            let best = selection::better_of(b, d);
             Weighed::On(best, 0)
         }
-        Met::Dead => Weighed::Fatal,
+        Finding::Dead => Weighed::Dead,
     }
 }
 
@@ -247,8 +232,8 @@ fn next_queued(s: &[u32], k: u32, n: u32) -> u32
     n
 }
 
-// The walk from a best on.
-fn settle(s: &mut [u32], from: u32, first: Best, drops: u32) -> Walked
+// The walk from its first best on.
+fn walk_on(s: &mut [u32], from: u32, first: Best, drops: u32) -> Walked
     requires { ⌜ (Sound (now s)) × (from ≤ at clauseCount 0 (now s)) × (Fine (now s) first) × (drops ≤ from) ⌝ }
     ensures { λ r. ⌜ (ended r (now (s .exit)) ≡ fromRank (now (s .entry)) (choosing first drops) from (now (s .entry))) × (Sane (now (s .entry)) (r .out)) ⌝ }
 {
@@ -268,7 +253,7 @@ fn settle(s: &mut [u32], from: u32, first: Best, drops: u32) -> Walked
                 d += y;
             }
             Weighed::Enough => return chosen(b, d),
-            Weighed::Fatal => return died(s, k, d),
+            Weighed::Dead => return died(s, k, d),
         }
         k = next_queued(s, k + 1, n);
     }
@@ -284,19 +269,18 @@ fn walk(s: &mut [u32]) -> Walked
     let mut k = next_queued(s, 0, n);
     let mut d: u32 = 0;
     while k < n {
-        let met = inspection::visit(s, wide(k));
-        match met {
-            Met::Unqueued => {}
-            Met::Dropped => d += 1,
-            Met::Opened {
+        let found = examination::examine_queued(s, wide(k));
+        match found {
+            Finding::Shut => d += 1,
+            Finding::Open {
                 candidate,
                 name,
                 count,
             } => {
                 let b = best_of(s, k, candidate, name, count);
-                return settle(s, k + 1, b, d);
+                return walk_on(s, k + 1, b, d);
             }
-            Met::Dead => return died(s, k, d),
+            Finding::Dead => return died(s, k, d),
         }
         k = next_queued(s, k + 1, n);
     }
@@ -309,7 +293,7 @@ fn walk(s: &mut [u32]) -> Walked
 // The proposal of a synced store of sound shape.
 pub fn propose(s: &mut [u32]) -> Proposal
     requires { ⌜ Sound (now s) ⌝ }
-    ensures { λ r. ⌜ (r ≡ proposalIn (now (s .entry))) × (now (s .exit) ≡ proposalInStore (now (s .entry))) ⌝ }
+    ensures { λ r. ⌜ (r ≡ proposalIn (now (s .entry))) × (now (s .exit) ≡ proposalInStore (now (s .entry))) × (Numbered r) ⌝ }
 {
     let r = walk(s);
     let out = r.out;
@@ -318,13 +302,11 @@ pub fn propose(s: &mut [u32]) -> Proposal
         Out::Nothing => Proposal::Nothing { dropped },
         Out::Dead(clause) => Proposal::Dead { clause, dropped },
         Out::Choose(b) => {
-            let k = wide(b.clause);
-            let parent = read::parent(s, k);
-            let clause = read::clause_id(s, k);
+            let clause = records::clause_at(s, wide(b.clause));
             Proposal::Choose {
                 candidate: b.candidate,
-                parent,
-                clause,
+                parent: clause.parent,
+                clause: clause.id,
                 activity: f32::from_bits(b.activity),
                 count: b.count,
                 dropped,

@@ -3,10 +3,11 @@ ghost use mathlib.Core.Path.{_≡_};
 ghost use Prim.Native.Nat.{_≤_};
 ghost use lib.ListN.{length};
 ghost use Rattle.store.specs.Layout.{words};
-ghost use Rattle.proposal.specs.Propose.{unsynced, proposalOut, proposalStore};
+ghost use Rattle.proposal.specs.Propose.{Numbered, unsynced, proposalOut, proposalStore};
 use store::read;
 use store::refusals;
 use store::shape;
+use trail::entries;
 
 pub mod decide_queue;
 
@@ -37,15 +38,15 @@ fn is_unsynced(s: &[u32]) -> bool
     ensures { λ r. ⌜ r ≡ unsynced (now (s .entry)) ⌝ }
 {
     let mirrored = read::mirror_length(s);
-    if read::sync_floor(s) < mirrored {
+    if entries::floor(s) < mirrored {
         return true;
     }
-    mirrored < read::trail_length(s)
+    mirrored < entries::length(s)
 }
 
 // Proposes the candidate to decide next.
 pub fn propose(s: &mut [u32]) -> Proposal
-    ensures { λ r. ⌜ (r ≡ proposalOut (now (s .entry))) × (now (s .exit) ≡ proposalStore (now (s .entry))) ⌝ }
+    ensures { λ r. ⌜ (r ≡ proposalOut (now (s .entry))) × (now (s .exit) ≡ proposalStore (now (s .entry))) × (Numbered r) ⌝ }
 {
     if shape::sound(s) {
         if is_unsynced(s) {

@@ -83,3 +83,23 @@ part-from l i zero h = refl
 part-from l i (suc n) h =
     ap (take (suc n)) (drop-cons l i 0 (omega arith))
     ∙ ap (λ r. getD l i 0 ∷ r) (ap (λ k. take n (drop k l)) (sym (add-one i)) ∙ part-from l (i + 1) n (omega arith))
+
+-- a loop over what a function says of n numbers: what is left at a turn
+module _ {A : Type 0} (f : ℕ → A) (t n : ℕ) where
+  pub from-begin : from f t n ≡ from f (t + 0) (n - 0)
+  from-begin =
+      let e : n - 0 ≡ n = omega arith in
+      rw (e, add-zero t)
+
+  pub from-next : (i : ℕ) → i < n → from f (t + i) (n - i) ≡ f (t + i) ∷ from f (t + (i + 1)) (n - (i + 1))
+  unfolding from
+  from-next i h =
+      let e : n - i ≡ suc (n - (i + 1)) = omega arith in
+      let z : t + i + 1 ≡ t + (i + 1) = omega arith in
+      rw (e, z)
+
+  pub from-done : (i : ℕ) → n ≤ i → from f (t + i) (n - i) ≡ []
+  unfolding from
+  from-done i h =
+      let e : n - i ≡ 0 = omega arith in
+      rw e

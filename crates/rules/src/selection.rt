@@ -3,7 +3,7 @@ ghost use mathlib.Core.Bool.{cond};
 ghost use mathlib.Core.Path.{_≡_};
 ghost use Prim.Native.Nat.{_≤_};
 ghost use Rattle.rules.specs.Activity.{lastActivity};
-ghost use Rattle.rules.specs.Walk.{better, shields, stopsAt};
+ghost use Rattle.rules.specs.Walk.{better, shields, stopsBy};
 use crate::Best;
 use crate::ROOT;
 use crate::activity;
@@ -21,7 +21,7 @@ pub fn is_shielded(above: u32, parent: u32) -> bool
 // Whether the walk stops at a best; `highest` is the largest stored activity, which only a narrow walk asks for.
 pub fn stops(b: Best, narrow: bool, highest: u32) -> bool
     requires { ⌜ (b .activity ≤ lastActivity) × (highest ≤ lastActivity) ⌝ }
-    ensures { λ r. ⌜ r ≡ stopsAt narrow highest b ⌝ }
+    ensures { λ r. ⌜ r ≡ stopsBy narrow highest b ⌝ }
 {
     if b.count == 1 {
         return true;

@@ -13,9 +13,10 @@ use Rattle.store.specs.Area.{Area, area, at, put, apart}
 use Rattle.store.specs.Layout.{queued, cacheStates, mirror, mirrorLength, syncFloor, propagated, trailLength, trailVariables, map, clauseCount, queueRegion, mirrorRegion, tablesRegion}
 use Rattle.store.specs.Limits.{clauses, requirements, trailRoom, lastVariable}
 use Rattle.store.specs.Shape.{every, upTo, Sound}
-use Rattle.evaluate.proofs.Froms.{length-from, every-from}
 use Rattle.sync.proofs.Sweeping.{length-sweep, area-sweep, sound-sweep}
-use Rattle.sync.specs.Sync.{wordsFrom, newEntries, touchedIn, wakesAt, spoilsAt, wokenWords, spoiledWords, sweptWords, copiedWords, mirroredWords, syncInStore}
+use Rattle.sync.specs.Sync.{newEntries, touchedIn, wakesAt, spoilsAt, wokenWords, spoiledWords, sweptWords, copiedWords, mirroredWords, syncInStore}
+use Rattle.rules.proofs.Froms.{length-from}
+use Rattle.meaning.proofs.Lists.{every-from}
 
 -- the marks
 pub few : (w : List ℕ) → Sound w → at clauseCount 0 w ≤ clauses
@@ -60,14 +61,14 @@ module _ (w : List ℕ) (h : Sound w) where
   short = h .ranges trailLength trailRoom tt 0
 
   pub length-new : length (newEntries w) ≡ at trailLength 0 w - at syncFloor 0 w
-  unfolding newEntries wordsFrom
+  unfolding newEntries
   length-new = length-from (λ k. at trailVariables k w) (at syncFloor 0 w) (at trailLength 0 w - at syncFloor 0 w)
 
   pub copies-fit : at syncFloor 0 w + length (newEntries w) ≤ trailRoom
   copies-fit = omega (arith, length-new, short, h .floor-trail)
 
   pub new-in-range : every (upTo lastVariable) (newEntries w) ≡ true
-  unfolding newEntries wordsFrom
+  unfolding newEntries
   new-in-range = every-from lastVariable (λ k. at trailVariables k w) (h .ranges trailVariables lastVariable tt) (at syncFloor 0 w) (at trailLength 0 w - at syncFloor 0 w)
 
   pub copied-length : length (copiedWords w) ≡ length w

@@ -5,7 +5,7 @@ use Prim.Native.Nat.{ℕ, zero, suc, _+_, _-_, _*_, _≤_, _<_}
 use native.Mathlib.Nat.{zero-add}
 use native.Mathlib.Omega.{arith}
 use lib.ListN.{length, take, drop}
-use Rattle.evaluate.specs.Standing.{entryAt, trailOf, mirrorOf, storeOf}
+use Rattle.meaning.specs.Standing.{entryAt, trailOf, mirrorOf, storeOf}
 use Rattle.rules.specs.Store.{touched}
 use Rattle.rules.specs.Sync.{variables}
 use Rattle.store.proofs.AreaLaws.{area-kept}
@@ -14,10 +14,11 @@ use Rattle.store.specs.Area.{at, put}
 use Rattle.store.specs.Layout.{mirror, mirrorLength, syncFloor, trailLength, trailVariables, trailValues}
 use Rattle.store.specs.Limits.{trailRoom}
 use Rattle.store.specs.Shape.{Sound}
-use Rattle.evaluate.proofs.Froms.{area-from, drop-from, from-agree, from-append, from-same, getD-from, length-mirror, length-trail, take-from}
 use Rattle.sync.proofs.Kept.{length-new, copies-fit, mirrored-at, new-length, mirrored-sound}
-use Rattle.sync.specs.Sync.{wordsFrom, oldEntries, newEntries, touchedIn, touchesIn, copiedWords, mirroredWords}
+use Rattle.sync.specs.Sync.{oldEntries, newEntries, touchedIn, touchesIn, copiedWords, mirroredWords}
 use Rattle.rules.specs.Numbers.{from}
+use Rattle.meaning.proofs.Lists.{area-from, length-mirror, length-trail}
+use Rattle.rules.proofs.Froms.{drop-from, from-agree, from-append, from-same, getD-from, take-from}
 
 variables-from : (w : List ℕ) (i n : ℕ) → variables (from (entryAt w) i n) ≡ from (λ k. at trailVariables k w) i n
 unfolding variables from entryAt
@@ -30,14 +31,14 @@ module _ (w : List ℕ) (h : Sound w) where
   mirror-from = area-from mirror w 0 (at mirrorLength 0 w) (omega (arith, h .long)) (rw (zero-add (at mirrorLength 0 w)) (h .ranges mirrorLength trailRoom tt 0))
 
   old-is : drop (at syncFloor 0 w) (mirrorOf w) ≡ oldEntries w
-  unfolding oldEntries wordsFrom
+  unfolding oldEntries
   old-is =
       ap (drop (at syncFloor 0 w)) mirror-from
       ∙ drop-from (λ k. at mirror k w) (at syncFloor 0 w) 0 (at mirrorLength 0 w) (h .floor-mirror)
       ∙ rw (zero-add (at syncFloor 0 w))
 
   new-is : variables (drop (at syncFloor 0 w) (trailOf w)) ≡ newEntries w
-  unfolding newEntries wordsFrom trailOf
+  unfolding newEntries trailOf
   new-is =
       ap variables (drop-from (entryAt w) (at syncFloor 0 w) 0 (at trailLength 0 w) (h .floor-trail))
       ∙ rw (zero-add (at syncFloor 0 w)) (variables-from w (at syncFloor 0 w) (at trailLength 0 w - at syncFloor 0 w))
@@ -68,7 +69,7 @@ module _ (w : List ℕ) (h : Sound w) where
   mirror-low k l = mirror-word k ∙ at-run-before mirror (at syncFloor 0 w) (newEntries w) w k (copies-fit w h) l
 
   mirror-high : (k : ℕ) → at syncFloor 0 w ≤ k → k < at trailLength 0 w → at mirror k (mirroredWords w) ≡ at trailVariables k w
-  unfolding copiedWords newEntries wordsFrom
+  unfolding copiedWords newEntries
   mirror-high k l m =
       let e : k ≡ at syncFloor 0 w + (k - at syncFloor 0 w) = omega arith in
       mirror-word k
@@ -84,7 +85,7 @@ module _ (w : List ℕ) (h : Sound w) where
       ∙ ap (take (at syncFloor 0 w)) (sym (mirror-from w h))
 
   mirror-rest : from (λ k. at mirror k (mirroredWords w)) (0 + at syncFloor 0 w) (at trailLength 0 w - at syncFloor 0 w) ≡ variables (drop (at syncFloor 0 w) (trailOf w))
-  unfolding newEntries wordsFrom
+  unfolding newEntries
   mirror-rest =
       rw (zero-add (at syncFloor 0 w))
       (from-agree (λ k. at mirror k (mirroredWords w)) (λ k. at trailVariables k w) (at syncFloor 0 w) (at trailLength 0 w - at syncFloor 0 w)

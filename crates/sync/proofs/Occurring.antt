@@ -6,8 +6,8 @@ use mathlib.Core.Path.{_≡_, refl, sym, ap, _∙_}
 use Prim.Native.Nat.{ℕ, _+_, _-_, _≤_, _<_}
 use native.Mathlib.Omega.{arith}
 use borrow.Author.Tests.{eq-eqb, ne-eqb}
-use Rattle.evaluate.proofs.Turns.{from-begin, from-next, from-done}
-use Rattle.evaluate.specs.View.{run, listAt, listsAt, literalAt, literalsAt}
+use Rattle.rules.proofs.Froms.{from-begin, from-next, from-done}
+use Rattle.meaning.specs.View.{run, listAt, listsAt, literalAt, literalsAt}
 use Rattle.requirement.specs.Tables.{firstSlot, listCount, cellsOf}
 use Rattle.rules.specs.Sync.{meets, mentions}
 use Rattle.rules.specs.Walk.{Literal, CandidateList, flattened, member}
@@ -16,8 +16,8 @@ use Rattle.store.specs.Area.{at}
 use Rattle.store.specs.Layout.{candidates, disjunctionStarts, disjunctionSizes, literalVariables}
 use Rattle.store.specs.Limits.{cellRoom}
 use Rattle.store.specs.Shape.{Sound}
-use Rattle.evaluate.proofs.Froms.{area-from}
 use Rattle.rules.specs.Numbers.{from}
+use Rattle.meaning.proofs.Lists.{area-from}
 
 -- one of a list passes a test
 unfoldable pub anyOf : {A : Type 0} → (A → Bool) → List A → Bool
@@ -96,18 +96,3 @@ literal-test W w i v e = rw e
 pub requirement-lists : (W w : List ℕ) (key t n : ℕ) → t ≡ firstSlot key → n ≡ listCount w key → meets W (flattened (from (listAt w) t n)) ≡ meets W (flattened (listsAt w key))
 unfolding listsAt
 requirement-lists W w key t n p q = rw (p, q)
-
--- the literals of a condition
-module _ (W w : List ℕ) (c : ℕ) where
-  pub absent-untouched : c ≡ 0 → false ≡ mentions W (literalsAt w c)
-  unfolding literalsAt mentions
-  absent-untouched h = rw (eq-eqb c 0 h)
-
-  module _ (d size : ℕ) (h : c ≢ 0) (e : d ≡ c - 1) (q : size ≡ at disjunctionSizes d w) where
-    pub unloaded-untouched : size ≡ 0 → false ≡ mentions W (literalsAt w c)
-    unfolding literalsAt mentions from
-    unloaded-untouched z = rw (ne-eqb c 0 h, ← e, ← q, z)
-
-    pub literals-touched : (place : ℕ) → place ≡ at disjunctionStarts d w → mentions W (from (literalAt w) place (size - 1)) ≡ mentions W (literalsAt w c)
-    unfolding literalsAt
-    literals-touched place p = rw (ne-eqb c 0 h, ← e, ← p, ← q)

@@ -4,20 +4,20 @@ use mathlib.Core.Path.{_≡_, sym, ap, _∙_, fun-ext}
 use Prim.Native.Nat.{ℕ}
 use lib.Dec.{T}
 use lib.ListN.{take, drop}
-use Rattle.evaluate.proofs.Frames.{env-same, assigned-same, queue-same, trail-same, mirror-same}
-use Rattle.evaluate.specs.Standing.{envOf, queueOf, trailOf, mirrorOf, storeOf}
+use Rattle.meaning.proofs.Frames.{env-same, assigned-same, queue-same, trail-same, mirror-same}
+use Rattle.meaning.specs.Standing.{envOf, queueOf, trailOf, mirrorOf, storeOf}
 use Rattle.rules.specs.Store.{sync, touched}
 use Rattle.rules.specs.Sync.{value, variables, routes}
 use Rattle.store.specs.Area.{Area, at, apart}
 use Rattle.store.specs.Layout.{mirrorLength, syncFloor, trailLength, map, clauseCount, environmentRegion, mirrorRegion, queueRegion, trailRegion}
 use Rattle.store.specs.Shape.{Sound}
 use Rattle.sync.proofs.Kept.{swept-area, swept-sound, mirrored-area, mirrored-at, new-floor, new-length, sync-outside}
-use Rattle.evaluate.proofs.Froms.{length-trail}
 use Rattle.sync.proofs.Mirrored.{touched-is, mirror-is, trail-kept}
 use Rattle.sync.proofs.Swept.{sweep-is}
 use Rattle.sync.specs.Sync.{touchedIn, sweptWords, mirroredWords, syncInStore}
 use Rattle.rules.specs.declared.Value.{Value}
 use Rattle.trail.specs.Assignment.{assigned}
+use Rattle.meaning.proofs.Lists.{length-trail}
 
 -- SYNC
 module _ (w : List ℕ) (h : Sound w) where

@@ -7,8 +7,8 @@ use Prim.Native.Nat.{ℕ, _≤_, _<_}
 use native.Mathlib.Omega.{arith}
 use borrow.Author.Tests.{lt-ltb, le-ltb}
 use lib.Dec.{T, ltb, eqb}
-use Rattle.evaluate.specs.Standing.{ofClause, envOf, cacheBy, cacheOf, markOf, queueOf}
-use Rattle.evaluate.specs.View.{listsAt}
+use Rattle.meaning.specs.Standing.{ofClause, envOf, cacheBy, cacheOf, markOf, queueOf}
+use Rattle.meaning.specs.View.{listsAt}
 use Rattle.rules.proofs.Sweeps.{routes-swept}
 use Rattle.rules.specs.Sync.{routes, spoiled, spoils}
 use Rattle.rules.specs.Walk.{CandidateList}
@@ -80,12 +80,6 @@ module _ (w W : List ℕ) (h : Sound w) where
       at-sweep cacheStates (spoilsAt (wokenWords w W) W) 0 (wokenWords w W) (omega (arith, woken-length w W h, h .long)) key requirements (omega arith) l
       ∙ rw (spoils-first key, woken-area w W h cacheStates tt)
 
-  spoiled-by : (a : ℕ → Value) (cs : List CandidateList) (m : Cache) → cond (spoils a W cs m) Dirty m ≡ spoiled a W cs m
-  spoiled-by a cs Dirty = refl
-  spoiled-by a cs (Known (Satisfied x)) = refl
-  spoiled-by a cs (Known (Frontier x n m)) = refl
-  spoiled-by a cs (Known state.Dead) = refl
-
   other : (b : Area) → T (apart b queued) → T (apart b cacheStates) → (i : ℕ) → at b i (sweptWords w W) ≡ at b i w
   unfolding sweptWords at
   other b t u i = rw (spoiled-area (wokenWords w W) W b u, woken-area w W h b t)
@@ -96,7 +90,7 @@ module _ (w W : List ℕ) (h : Sound w) where
       rw (other cacheCandidates tt tt key, other cacheNames tt tt key, other cacheCounts tt tt key) (⊎-elim inner outer (lt-or key requirements))
     where
       inner : key < requirements → cacheBy (at cacheStates key (sweptWords w W)) (at cacheCandidates key w) (at cacheNames key w) (at cacheCounts key w) ≡ spoiled (assigned w) W (listsAt w key) (cacheOf w key)
-      inner l = rw (state-word key l) (cache-set (spoilsAt w W key) (at cacheStates key w) (at cacheCandidates key w) (at cacheNames key w) (at cacheCounts key w) ∙ spoiled-by (assigned w) (listsAt w key) (cacheOf w key))
+      inner l = rw (state-word key l) (cache-set (spoilsAt w W key) (at cacheStates key w) (at cacheCandidates key w) (at cacheNames key w) (at cacheCounts key w))
 
       outer : requirements ≤ key → cacheBy (at cacheStates key (sweptWords w W)) (at cacheCandidates key w) (at cacheNames key w) (at cacheCounts key w) ≡ spoiled (assigned w) W (listsAt w key) (cacheOf w key)
       outer l = rw (at-past cacheStates key (sweptWords w W) l, at-past cacheStates key w l, cache-zero (at cacheCandidates key w) (at cacheNames key w) (at cacheCounts key w))

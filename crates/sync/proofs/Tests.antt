@@ -7,16 +7,16 @@ use mathlib.Core.Path.{_≡_, refl, sym, ap, _∙_, fun-ext}
 use Prim.Native.Nat.{ℕ, _≤_, _<_}
 use native.Mathlib.Omega.{arith}
 use borrow.Author.Tests.{lt-ltb, le-ltb}
-use Rattle.evaluate.proofs.Frames.{lists-same, env-same, assigned-same}
-use Rattle.evaluate.specs.Standing.{ofClause, envOf, cacheOf, markOf, queueOf}
-use Rattle.evaluate.specs.View.{listsAt, literalsAt}
-use Rattle.rules.proofs.Sweeps.{meets-same, touches-same, broken-same}
+use Rattle.meaning.proofs.Frames.{lists-same, env-same, assigned-same}
+use Rattle.meaning.specs.Standing.{ofClause, envOf, cacheOf, markOf, queueOf}
+use Rattle.meaning.specs.View.{listsAt, literalsAt}
+use Rattle.rules.proofs.Sweeps.{meets-same, mentions-same, broken-same}
 use Rattle.rules.specs.Sync.{meets, mentions, woken, spoils}
 use Rattle.rules.specs.Walk.{Environment, CandidateList, flattened, isTrue, member}
 use Rattle.rules.specs.declared.Cache.{Cache}
 use Rattle.rules.specs.declared.Cache.the-variants.{Dirty, Known}
 use Rattle.rules.specs.declared.State.the-variants.{Satisfied, Frontier}
-use Rattle.evaluate.proofs.Records.{clause-word, cache-dirty, cache-satisfied, cache-frontier}
+use Rattle.meaning.proofs.Records.{clause-word, cache-dirty, cache-satisfied, cache-frontier}
 use Rattle.rules.proofs.Choice.{eq-or}
 use Rattle.store.specs.Area.{area, at}
 use Rattle.store.proofs.AreaLaws.{area-same}
@@ -121,7 +121,7 @@ module _ (W U : List ℕ) (same : (v : ℕ) → member v W ≡ member v U) (w : 
   wakes-alike k =
       rw (
         same (ofClause clauseParents w k),
-        touches-same W U same (literalsAt w (ofClause clauseConditions w k)),
+        mentions-same W U same (literalsAt w (ofClause clauseConditions w k)),
         broken-same W U same (assigned w) (listsAt w (ofClause clauseRequirements w k)) (cacheOf w (ofClause clauseRequirements w k)),
       )
 

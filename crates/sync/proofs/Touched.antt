@@ -9,14 +9,13 @@ use borrow.Author.Tests.{leb-true, eqb-true, eqb-false, ne-eqb}
 use lib.Dec.{eqb}
 use lib.ListN.{length, getD, set, replicate, length-set, length-replicate, getD-replicate}
 use lib.Seq.{getD-set-same, getD-set-other}
+use Rattle.rules.specs.Numbers.{from}
 use Rattle.rules.specs.Walk.{member}
 use Rattle.rules.proofs.Choice.{both, lt-or, or-none, or-true}
-use Rattle.store.specs.Area.{Area, at}
 use Rattle.store.specs.Limits.{variables, lastVariable}
 use Rattle.store.specs.Shape.{every, upTo}
-use Rattle.evaluate.proofs.Froms.{upto-next, upto-done}
-use Rattle.sync.specs.Sync.{wordsFrom}
 use Rattle.sync.specs.Table.{foundIn, inTable, entered, tableOf}
+use Rattle.rules.proofs.Froms.{upto-next, upto-done}
 
 not-found : (t : List Bool) (v n : ℕ) → n ≤ v → member v (foundIn t n) ≡ false
 unfolding foundIn member
@@ -78,12 +77,12 @@ table-tells W e v = ⊎-elim inner outer (lt-or v variables)
     outer : variables ≤ v → member v (inTable (entered (replicate variables false) W)) ≡ member v W
     outer h = not-found (entered (replicate variables false) W) v variables h ∙ sym (none-above lastVariable v W e (omega arith))
 
--- the loop that enters the words of an area: what is left to enter makes the whole table
-module _ (a : Area) (s W : List ℕ) (t r : List Bool) (i to : ℕ) (so : entered t W ≡ entered r (wordsFrom a s i (to - i))) where
-  pub enter-turn : (x : ℕ) → x ≡ at a i s → i < to → entered t W ≡ entered (set r x true) (wordsFrom a s (i + 1) (to - (i + 1)))
-  unfolding entered wordsFrom
-  enter-turn x e h = so ∙ rw (upto-next (λ k. at a k s) i to h, ← e)
+-- the loop that enters variables: what is left to enter makes the whole table
+module _ (f : ℕ → ℕ) (W : List ℕ) (t r : List Bool) (i to : ℕ) (so : entered t W ≡ entered r (from f i (to - i))) where
+  pub enter-turn : (x : ℕ) → x ≡ f i → i < to → entered t W ≡ entered (set r x true) (from f (i + 1) (to - (i + 1)))
+  unfolding entered
+  enter-turn x e h = so ∙ rw (upto-next f i to h, ← e)
 
   pub enter-done : to ≤ i → r ≡ entered t W
-  unfolding entered wordsFrom
-  enter-done h = sym (so ∙ rw (upto-done (λ k. at a k s) i to h))
+  unfolding entered
+  enter-done h = sym (so ∙ rw (upto-done f i to h))

@@ -8,7 +8,9 @@ use native.Mathlib.Omega.{arith}
 use borrow.Author.Tests.{leb-true, le-leb, lt-leb}
 use lib.Dec.{T}
 use lib.ListN.{length, getD}
-use Rattle.evaluate.specs.Standing.{cacheOf}
+use Rattle.trail.specs.Assignment.{variableAt}
+use Rattle.rules.specs.Numbers.{from}
+use Rattle.meaning.specs.Standing.{cacheOf}
 use Rattle.rules.specs.Walk.{member}
 use Rattle.store.proofs.AreaLaws.{at-is, length-area, length-put, area-kept}
 use Rattle.rules.proofs.Choice.{lt-or}
@@ -17,17 +19,18 @@ use Rattle.store.specs.Area.{Area, area, at, put, putRun, Fits, apart}
 use Rattle.store.specs.Layout.{queued, cacheStates, cacheCandidates, cacheNames, cacheCounts, mirror, mirrorLength, syncFloor, trailLength, trailVariables, map, clauseCount, environmentRegion}
 use Rattle.store.specs.Limits.{variables, requirements, trailRoom, lastVariable}
 use Rattle.store.specs.Shape.{every, upTo, Sound}
-use Rattle.evaluate.proofs.Froms.{upto-next, upto-done, every-from, every-both}
 use Rattle.sync.proofs.Kept.{few, woken-sound, spoiled-sound, new-in-range}
 use Rattle.sync.proofs.Sweeping.{length-sweep, area-sweep, sound-sweep, at-sweep-else, sweep-idle, sweep-set, sweep-skip, sweep-on, sweep-same}
 use Rattle.sync.proofs.Tests.{dirty-stays, cache-kept, wakes-kept, spoils-kept, wakes-alike, spoils-alike}
 use Rattle.sync.proofs.Touched.{entered-both, table-tells}
 use Rattle.sync.specs.Sweep.{sweep}
-use Rattle.sync.specs.Sync.{wordsFrom, oldEntries, newEntries, touchedIn, wakesAt, spoilsAt, block, DirtyBlock, spoilsFrom, spoiledFrom, wokenWords, spoiledWords, sweptWords, copiedWords, mirroredWords, syncInStore}
+use Rattle.sync.specs.Sync.{mirrorAt, oldEntries, newEntries, touchedIn, wakesAt, spoilsAt, block, DirtyBlock, spoilsFrom, spoiledFrom, wokenWords, spoiledWords, sweptWords, copiedWords, mirroredWords, syncInStore}
 use Rattle.sync.specs.Table.{inTable, entriesOf, entered, tableOf}
+use Rattle.rules.proofs.Froms.{upto-next, upto-done}
+use Rattle.meaning.proofs.Lists.{every-from, every-both}
 
 -- an entry is of a variable, and lies in its area
-pub entry-variable : (w : List ℕ) → Sound w → (old : Bool) (i : ℕ) → at (entriesOf old) i w < variables
+pub entry-variable : (w : List ℕ) → Sound w → (old : Bool) (i : ℕ) → entriesOf old w i < variables
 entry-variable w h true i = let m = h .ranges mirror lastVariable tt i in omega arith
 entry-variable w h false i = let m = h .ranges trailVariables lastVariable tt i in omega arith
 
@@ -145,11 +148,11 @@ ceiling-dirty w from top e h l z key m n =
     omega (arith, low, same)
 
 -- the copy: what is left to copy makes the whole copy
-pub copy-start : (w : List ℕ) (floor n : ℕ) → floor ≡ at syncFloor 0 w → n ≡ at trailLength 0 w → copiedWords w ≡ putRun mirror floor (wordsFrom trailVariables w floor (n - floor)) w
+pub copy-start : (w : List ℕ) (floor n : ℕ) → floor ≡ at syncFloor 0 w → n ≡ at trailLength 0 w → copiedWords w ≡ putRun mirror floor (from (variableAt w) floor (n - floor)) w
 unfolding copiedWords newEntries
 copy-start w floor n p q = rw (p, q)
 
-module _ (w s : List ℕ) (i n : ℕ) (long : length s ≡ length w) (kept : area trailVariables s ≡ area trailVariables w) (so : copiedWords w ≡ putRun mirror i (wordsFrom trailVariables w i (n - i)) s) where
+module _ (w s : List ℕ) (i n : ℕ) (long : length s ≡ length w) (kept : area trailVariables s ≡ area trailVariables w) (so : copiedWords w ≡ putRun mirror i (from (variableAt w) i (n - i)) s) where
   module _ (x : ℕ) (r : List ℕ) (is : x ≡ at trailVariables i s) (e : r ≡ put mirror i x s) where
     pub copy-long : length r ≡ length w
     copy-long = ap length e ∙ length-put mirror i x s ∙ long
@@ -157,28 +160,28 @@ module _ (w s : List ℕ) (i n : ℕ) (long : length s ≡ length w) (kept : are
     pub copy-kept : i < trailRoom → area trailVariables r ≡ area trailVariables w
     copy-kept l = ap (area trailVariables) e ∙ area-kept trailVariables mirror i x s tt l ∙ kept
 
-    pub copy-turn : i < n → copiedWords w ≡ putRun mirror (i + 1) (wordsFrom trailVariables w (i + 1) (n - (i + 1))) r
-    unfolding putRun wordsFrom at
+    pub copy-turn : i < n → copiedWords w ≡ putRun mirror (i + 1) (from (variableAt w) (i + 1) (n - (i + 1))) r
+    unfolding putRun at
     copy-turn l =
         let z : x ≡ at trailVariables i w = is ∙ rw kept in
         so ∙ rw (upto-next (λ k. at trailVariables k w) i n l, putRun, ← z, e)
 
   pub copy-done : n ≤ i → s ≡ copiedWords w
-  unfolding putRun wordsFrom
+  unfolding putRun
   copy-done l = sym (so ∙ rw (upto-done (λ k. at trailVariables k w) i n l))
 
 -- the touched variables are entered in two runs
-pub both-entered : (w : List ℕ) (t r u : List Bool) (floor old n : ℕ) → floor ≡ at syncFloor 0 w → old ≡ at mirrorLength 0 w → n ≡ at trailLength 0 w → r ≡ entered t (wordsFrom mirror w floor (old - floor)) → u ≡ entered r (wordsFrom trailVariables w floor (n - floor)) → u ≡ entered t (touchedIn w)
+pub both-entered : (w : List ℕ) (t r u : List Bool) (floor old n : ℕ) → floor ≡ at syncFloor 0 w → old ≡ at mirrorLength 0 w → n ≡ at trailLength 0 w → r ≡ entered t (from (mirrorAt w) floor (old - floor)) → u ≡ entered r (from (variableAt w) floor (n - floor)) → u ≡ entered t (touchedIn w)
 unfolding touchedIn oldEntries newEntries
 both-entered w t r u floor old n p q o e f =
     rw (← p, ← q, ← o)
     (f
-    ∙ ap (λ (v : List Bool). entered v (wordsFrom trailVariables w floor (n - floor))) e
-    ∙ sym (entered-both t (wordsFrom mirror w floor (old - floor)) (wordsFrom trailVariables w floor (n - floor))))
+    ∙ ap (λ (v : List Bool). entered v (from (variableAt w) floor (n - floor))) e
+    ∙ sym (entered-both t (from (mirrorAt w) floor (old - floor)) (from (variableAt w) floor (n - floor))))
 
 -- the touched variables are variables
 touched-in-range : (w : List ℕ) → Sound w → every (upTo lastVariable) (touchedIn w) ≡ true
-unfolding touchedIn oldEntries wordsFrom
+unfolding touchedIn oldEntries
 touched-in-range w h =
     every-both (upTo lastVariable) (oldEntries w) (newEntries w)
     (every-from lastVariable (λ k. at mirror k w) (h .ranges mirror lastVariable tt) (at syncFloor 0 w) (at mirrorLength 0 w - at syncFloor 0 w))

@@ -1,3 +1,3 @@
 pub mod Sweep
-pub mod Table
 pub mod Sync
+pub mod Table

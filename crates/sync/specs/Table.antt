@@ -3,8 +3,8 @@ use mathlib.Core.Bool.{Bool, true, false, cond}
 use mathlib.Core.List.{List, [], _∷_}
 use Prim.Native.Nat.{ℕ, zero, suc}
 use lib.ListN.{getD, set, replicate}
-use Rattle.store.specs.Area.{Area}
-use Rattle.store.specs.Layout.{mirror, trailVariables}
+use Rattle.sync.specs.Sync.{mirrorAt}
+use Rattle.trail.specs.Assignment.{variableAt}
 use Rattle.store.specs.Limits.{variables}
 
 -- the variables below n that a table has
@@ -17,9 +17,9 @@ abbrev pub inTable : List Bool → List ℕ
 inTable t = foundIn t variables
 
 -- the entries as the last sync saw them, or as they are
-abbrev pub entriesOf : Bool → Area
-entriesOf true = mirror
-entriesOf false = trailVariables
+abbrev pub entriesOf : Bool → List ℕ → ℕ → ℕ
+entriesOf true w = mirrorAt w
+entriesOf false w = variableAt w
 
 -- a table once variables were entered, one after the other
 unfoldable pub entered : List Bool → List ℕ → List Bool

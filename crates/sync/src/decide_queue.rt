@@ -3,17 +3,18 @@ ghost use mathlib.Core.Bool.{true};
 ghost use mathlib.Core.Path.{_≡_};
 ghost use Prim.Native.Nat.{_+_, _≤_, _<_};
 ghost use Rattle.store.specs.Area.{at};
-ghost use Rattle.store.specs.Layout.{clauseCount, syncFloor, trailLength};
+ghost use Rattle.store.specs.Layout.{clauseCount};
 ghost use Rattle.store.specs.Limits.{requirements};
 ghost use Rattle.store.specs.Shape.{Sound};
 ghost use Rattle.sync.specs.Sync.{touchesIn, brokenAt, wakesAt, spoilsAt, block, DirtyBlock, spoiledFrom, wokenWords, spoiledWords, copiedWords, mirroredWords, syncInStore};
 ghost use Rattle.sync.specs.Table.{inTable};
 ghost use Rattle.sync.specs.declared.Synced.the-variants.{Touches};
+ghost use Rattle.trail.specs.Assignment.{floorOf};
+ghost use Rattle.trail.specs.Entries.{entries};
 use crate::Synced;
 use crate::occurrences;
 use crate::table;
 use crate::table::PLACES;
-use evaluate::assignment;
 use store::areas;
 use store::codes;
 use store::limits;
@@ -21,6 +22,8 @@ use store::read;
 use store::shape;
 use store::wide;
 use store::write;
+use trail::assignment;
+use trail::entries;
 
 // How many caches are looked at together. It divides their number.
 const BLOCK: usize = 32;
@@ -128,12 +131,12 @@ fn spoil_caches(s: &mut [u32], t: &[bool; PLACES])
 // Copies the trail's entries at or beyond the floor into the mirror.
 fn copy_entries(s: &mut [u32], floor: usize, len: usize)
     requires { ⌜ Sound (now s) ⌝ }
-    requires { ⌜ (floor ≡ at syncFloor 0 (now s)) × (len ≡ at trailLength 0 (now s)) ⌝ }
+    requires { ⌜ (floor ≡ floorOf (now s)) × (len ≡ entries (now s)) ⌝ }
     ensures { λ _. ⌜ now (s .exit) ≡ copiedWords (now (s .entry)) ⌝ }
 {
     let mut i = floor;
     while i < len {
-        let v = read::trail_variable(s, i);
+        let v = entries::variable_at(s, i);
         write::mirrored(s, i, v);
         i += 1;
     }
@@ -144,11 +147,11 @@ fn renew_mirror(s: &mut [u32])
     requires { ⌜ Sound (now s) ⌝ }
     ensures { λ _. ⌜ now (s .exit) ≡ mirroredWords (now (s .entry)) ⌝ }
 {
-    let floor = wide(read::sync_floor(s));
-    let len = read::trail_length(s);
+    let floor = wide(entries::floor(s));
+    let len = entries::length(s);
     copy_entries(s, floor, wide(len));
     write::mirror_length(s, len);
-    write::sync_floor(s, len);
+    entries::move_floor(s, len);
 }
 
 // How many entries are touched.
@@ -156,9 +159,9 @@ fn touches(s: &[u32]) -> u32
     requires { ⌜ Sound (now s) ⌝ }
     ensures { λ r. ⌜ r ≡ touchesIn (now (s .entry)) ⌝ }
 {
-    let floor = read::sync_floor(s);
+    let floor = entries::floor(s);
     let old = read::mirror_length(s) - floor;
-    old + (read::trail_length(s) - floor)
+    old + (entries::length(s) - floor)
 }
 
 pub fn sync(s: &mut [u32]) -> Synced

@@ -6,7 +6,7 @@ ghost use Rattle.store.specs.Shape.{Sound};
 ghost use Rattle.requirement.specs.Tables.{cellsOf};
 ghost use Rattle.rules.specs.Sync.{meets, mentions};
 ghost use Rattle.rules.specs.Walk.{flattened};
-ghost use Rattle.evaluate.specs.View.{run, listAt, listsAt, literalAt, literalsAt};
+ghost use Rattle.meaning.specs.View.{run, listAt, listsAt, literalAt, literalsAt};
 ghost use Rattle.sync.specs.Table.{inTable};
 ghost use Rattle.rules.specs.Numbers.{from};
 use crate::table;
@@ -14,6 +14,7 @@ use crate::table::PLACES;
 use requirement::candidates;
 use store::read;
 use store::wide;
+use tables::disjunction;
 
 // Whether one of n cells is of a touched variable.
 fn in_cells(s: &[u32], t: &[bool; PLACES], start: usize, n: usize) -> bool
@@ -80,19 +81,11 @@ fn in_literals(s: &[u32], t: &[bool; PLACES], start: usize, n: usize) -> bool
     false
 }
 
-// Whether a variable of a condition is: 0 is none, else one more than the disjunction.
+// Whether a variable of a condition is, as a clause stores it.
 pub fn in_condition(s: &[u32], t: &[bool; PLACES], condition: u32) -> bool
     requires { ⌜ (Sound (now s)) × (condition ≤ disjunctions) ⌝ }
     ensures { λ r. ⌜ r ≡ mentions (inTable (now (t .entry))) (literalsAt (now (s .entry)) condition) ⌝ }
 {
-    if condition == 0 {
-        return false;
-    }
-    let disjunction = wide(condition - 1);
-    let size = wide(read::disjunction_size(s, disjunction));
-    if size == 0 {
-        return false;
-    }
-    let start = wide(read::disjunction_start(s, disjunction));
-    in_literals(s, t, start, size - 1)
+    let literals = disjunction::literals_under(s, condition);
+    in_literals(s, t, wide(literals.start), wide(literals.count))
 }

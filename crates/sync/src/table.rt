@@ -1,15 +1,16 @@
 // The table of touched variables: place v is true where v is touched.
 ghost use mathlib.Core.Path.{_≡_};
 ghost use Prim.Native.Nat.{_-_, _≤_, _<_};
-ghost use Rattle.store.specs.Area.{at};
 ghost use Rattle.store.specs.Limits.{variables, trailRoom};
 ghost use Rattle.store.specs.Shape.{Sound};
 ghost use Rattle.rules.specs.Walk.{member};
-ghost use Rattle.sync.specs.Sync.{wordsFrom, touchedIn};
+ghost use Rattle.rules.specs.Numbers.{from};
+ghost use Rattle.sync.specs.Sync.{touchedIn};
 ghost use Rattle.sync.specs.Table.{inTable, entriesOf, entered};
 use store::limits;
 use store::read;
 use store::wide;
+use trail::entries;
 
 // A place for each variable.
 pub const PLACES: usize = limits::VARIABLES;
@@ -25,21 +26,21 @@ pub fn is_touched(t: &[bool; PLACES], v: u32) -> bool
 // Entry i as the last sync saw it, or as it is.
 fn entry(s: &[u32], old: bool, i: usize) -> u32
     requires { ⌜ (Sound (now s)) × (i < trailRoom) ⌝ }
-    ensures { λ r. ⌜ r ≡ at (entriesOf old) i (now (s .entry)) ⌝ }
+    ensures { λ r. ⌜ r ≡ entriesOf old (now (s .entry)) i ⌝ }
 {
     if old {
         return read::mirrored(s, i);
     }
-    read::trail_variable(s, i)
+    entries::variable_at(s, i)
 }
 
-// Enters the entries `from`, .., `to` - 1.
-fn enter(s: &[u32], t: &mut [bool; PLACES], old: bool, from: usize, to: usize)
-    requires { ⌜ (Sound (now s)) × (to ≤ trailRoom) ⌝ }
-    ensures { λ _. ⌜ now (t .exit) ≡ entered (now (t .entry)) (wordsFrom (entriesOf old) (now (s .entry)) from (to - from)) ⌝ }
+// Enters the entries `first`, .., `end` - 1.
+fn enter(s: &[u32], t: &mut [bool; PLACES], old: bool, first: usize, end: usize)
+    requires { ⌜ (Sound (now s)) × (end ≤ trailRoom) ⌝ }
+    ensures { λ _. ⌜ now (t .exit) ≡ entered (now (t .entry)) (from (entriesOf old (now (s .entry))) first (end - first)) ⌝ }
 {
-    let mut i = from;
-    while i < to {
+    let mut i = first;
+    while i < end {
         t[wide(entry(s, old, i))] = true;
         i += 1;
     }
@@ -50,7 +51,7 @@ pub fn enter_touched(s: &[u32], t: &mut [bool; PLACES])
     requires { ⌜ Sound (now s) ⌝ }
     ensures { λ _. ⌜ now (t .exit) ≡ entered (now (t .entry)) (touchedIn (now (s .entry))) ⌝ }
 {
-    let floor = wide(read::sync_floor(s));
+    let floor = wide(entries::floor(s));
     enter(s, t, true, floor, wide(read::mirror_length(s)));
-    enter(s, t, false, floor, wide(read::trail_length(s)));
+    enter(s, t, false, floor, wide(entries::length(s)));
 }

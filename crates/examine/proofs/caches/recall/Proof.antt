@@ -1,5 +1,5 @@
 use borrow.Author.Needs.{needs}
-use Rattle.evaluate.proofs.Records.{cache-dirty, cache-satisfied, cache-frontier}
+use Rattle.meaning.proofs.Records.{cache-dirty, cache-satisfied, cache-frontier}
 use Rattle.examine.proofs.caches.recall.Statement.{statement}
 use Rattle.examine.proofs.caches.recall.Tie as tie
 

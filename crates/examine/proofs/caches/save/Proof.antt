@@ -1,6 +1,6 @@
 use mathlib.Core.Path.{_∙_}
 use borrow.Author.Needs.{needs}
-use Rattle.examine.proofs.Visits.{saved-satisfied, saved-frontier, saved-dead}
+use Rattle.examine.proofs.Examining.{saved-satisfied, saved-frontier, saved-dead}
 use Rattle.examine.proofs.caches.save.Statement.{statement}
 use Rattle.examine.proofs.caches.save.Tie as tie
 

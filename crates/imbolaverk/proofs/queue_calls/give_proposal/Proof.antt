@@ -1,4 +1,5 @@
-use mathlib.Core.Path.{refl}
+use mathlib.Core.Path.{refl, subst}
+use Rattle.proposal.specs.Propose.{Numbered}
 use borrow.Author.Needs.{needs}
 use Rattle.imbolaverk.proofs.queue_calls.give_proposal.Statement.{statement}
 use Rattle.imbolaverk.proofs.queue_calls.give_proposal.Tie as tie
@@ -6,8 +7,8 @@ use Rattle.imbolaverk.proofs.queue_calls.give_proposal.Tie as tie
 enum-known-answer : tie.Need-enum-known-answer
 enum-known-answer c = search needs
 
-bits-of-requires : tie.Need-bits-of-requires
-bits-of-requires c κs = search needs
+float-to-bits-bits : tie.Need-float-to-bits-bits
+float-to-bits-bits c = subst Numbered (c .before .answer .given .1) (c .before .before .before .pre)
 
 set-seven-requires : tie.Need-set-seven-requires
 set-seven-requires c κs = search needs
@@ -28,7 +29,7 @@ enum-known-answer-4 : tie.Need-enum-known-answer-4
 enum-known-answer-4 c = search needs
 
 returns : tie.Need-returns
-returns c = rw (c .before .before .before .before .answer .given .1, ← c .before .before .bits-of .ensures) (refl, c .set-seven .ensures)
+returns c = rw (c .before .before .before .answer .given .1) (refl, c .set-seven .ensures)
 
 returns-2 : tie.Need-returns-2
 returns-2 c = rw (c .before .before .before .answer2 .given .1) (refl, c .set-one-and-last .ensures)
@@ -44,7 +45,7 @@ give-proposal-spec =
     tie.close
     (tie.spec
     enum-known-answer
-    bits-of-requires
+    float-to-bits-bits
     set-seven-requires
     enum-known-answer-2
     set-one-and-last-requires

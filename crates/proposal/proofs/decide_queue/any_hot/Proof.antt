@@ -2,9 +2,9 @@ use mathlib.Core.Path.{ap, _∙_, _≡_}
 use Prim.Native.Nat.{_+_, _-_, _≤_}
 use native.Mathlib.Omega.{arith}
 use borrow.Author.Needs.{needs}
-use Rattle.evaluate.proofs.Turns.{from-begin}
-use Rattle.evaluate.specs.Standing.{envOf}
-use Rattle.evaluate.specs.View.{listAt}
+use Rattle.rules.proofs.Froms.{from-begin}
+use Rattle.meaning.specs.Standing.{envOf}
+use Rattle.meaning.specs.View.{listAt}
 use Rattle.proposal.proofs.Steps.{hot-hit, hot-next, hot-none, name-below}
 use Rattle.rules.specs.Walk.{anyHot}
 use Rattle.proposal.proofs.decide_queue.any_hot.Statement.{statement}

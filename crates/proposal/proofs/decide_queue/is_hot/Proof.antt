@@ -1,7 +1,7 @@
 use mathlib.Core.Path.{_∙_}
 use borrow.Author.Needs.{needs}
-use Rattle.evaluate.proofs.Records.{clause-inside, requirement-below}
-use Rattle.evaluate.proofs.Reading.{slots-of}
+use Rattle.meaning.proofs.Records.{clause-inside, requirement-below}
+use Rattle.meaning.proofs.Reading.{slots-of}
 use Rattle.proposal.proofs.Steps.{hot-is}
 use Rattle.proposal.proofs.decide_queue.is_hot.Statement.{statement}
 use Rattle.proposal.proofs.decide_queue.is_hot.Tie as tie

@@ -1,11 +1,12 @@
-use mathlib.Core.Path.{refl, _≡_}
+use mathlib.Core.Path.{refl, _≡_, sym, _∙_, ap}
 use Prim.Native.Nat.{_-_, _≤_}
 use native.Mathlib.Omega.{arith}
 use borrow.Author.Needs.{needs}
-use Rattle.evaluate.proofs.Records.{clause-inside}
-use Rattle.examine.proofs.Clauses.{mark-clear, mark-set}
-use Rattle.proposal.proofs.Skipping.{next-hit, next-none, next-on}
+use Rattle.meaning.proofs.Records.{clause-inside}
+use Rattle.meaning.proofs.Clauses.{mark-clear, mark-set}
+use Rattle.meaning.specs.Standing.{markOf}
 use Rattle.proposal.specs.Turn.{nextQueued}
+use Rattle.rules.proofs.Loops.{from-hit, from-none, from-on}
 use Rattle.proposal.proofs.decide_queue.next_queued.Statement.{statement}
 use Rattle.proposal.proofs.decide_queue.next_queued.Tie as tie
 
@@ -25,7 +26,7 @@ queued-requires : tie.Need-queued-requires Inv-loop μ-loop
 queued-requires c κs = (c .before .before .before .before .pre .0 .long, clause-inside _ (c .before .before .before .before .pre .0) _ (omega (arith, c .wide .ensures, c .before .before .before .before .pre .2)))
 
 returns : tie.Need-returns Inv-loop μ-loop
-returns c = next-hit _ _ _ _ (c .before .before .before .before .loop .inv .1) _ (c .before .before .before .loop-test .taken) (c .before .before .wide .ensures) (mark-set _ _ (omega (arith, c .before .before .wide .ensures, c .before .before .before .loop-test .taken, c .before .before .before .before .before .before .pre .2)) _ (c .before .queued .ensures) (c .if1 .taken))
+returns c = from-hit (markOf (c .before .before .before .before .before .before .args .s .now)) _ _ _ (c .before .before .before .before .loop .inv .1) (c .before .before .before .loop-test .taken) (ap (markOf (c .before .before .before .before .before .before .args .s .now)) (sym (c .before .before .wide .ensures)) ∙ mark-set _ _ (omega (arith, c .before .before .wide .ensures, c .before .before .before .loop-test .taken, c .before .before .before .before .before .before .pre .2)) _ (c .before .queued .ensures) (c .if1 .taken))
 
 add-i : tie.Need-add-i Inv-loop μ-loop
 add-i c = search needs
@@ -34,10 +35,10 @@ loop-less : tie.Need-loop-less Inv-loop μ-loop
 loop-less c = search needs
 
 loop-again : tie.Need-loop-again Inv-loop μ-loop
-loop-again c = (omega arith, next-on _ _ _ _ (c .before .before .before .before .loop .inv .1) _ (c .before .before .before .loop-test .taken) (c .before .before .wide .ensures) (mark-clear _ _ (omega (arith, c .before .before .wide .ensures, c .before .before .before .loop-test .taken, c .before .before .before .before .before .before .pre .2)) _ (c .before .queued .ensures) (c .if1 .left)))
+loop-again c = (omega arith, from-on (markOf (c .before .before .before .before .before .before .args .s .now)) _ _ _ (c .before .before .before .before .loop .inv .1) (c .before .before .before .loop-test .taken) (ap (markOf (c .before .before .before .before .before .before .args .s .now)) (sym (c .before .before .wide .ensures)) ∙ mark-clear _ _ (omega (arith, c .before .before .wide .ensures, c .before .before .before .loop-test .taken, c .before .before .before .before .before .before .pre .2)) _ (c .before .queued .ensures) (c .if1 .left)))
 
 returns-2 : tie.Need-returns-2 Inv-loop μ-loop
-returns-2 c = next-none _ _ _ _ (c .before .loop .inv .1) (c .before .loop .inv .0) (c .loop-test .left)
+returns-2 c = from-none (markOf (c .before .before .before .args .s .now)) _ _ _ (c .before .loop .inv .1) (c .before .loop .inv .0) (c .loop-test .left)
 
 pub next-queued-spec : {M : Type 1} → statement M
 next-queued-spec =

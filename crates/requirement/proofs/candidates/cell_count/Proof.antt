@@ -4,9 +4,10 @@ use native.Mathlib.Omega.{arith}
 use borrow.Author.Needs.{needs}
 use denote.Ref.{now}
 use lib.ListN.{length}
-use Rattle.requirement.proofs.Copying.{count-most, cells-most, left-start, sum-turn, sum-none}
+use Rattle.requirement.proofs.Copying.{count-most, cells-most, sum-turn, sum-none}
 use Rattle.store.specs.Lent.{joined}
 use Rattle.requirement.specs.Tables.{cellsOf, keyOf, firstSlot}
+use Rattle.rules.proofs.Froms.{from-begin}
 use Rattle.rules.specs.Numbers.{from}
 use Rattle.store.specs.Limits.{cellRoom}
 use Rattle.requirement.proofs.candidates.cell_count.Statement.{statement}
@@ -19,7 +20,7 @@ abbrev μ-loop : tie.MeasureT-loop
 μ-loop s r n sum₀ j₀ sum j = n - j
 
 loop-holds : tie.Need-loop-holds Inv-loop μ-loop
-loop-holds c = (search needs, search needs, omega (arith, ap (λ t. length (joined t)) (left-start (now (c .before .args .s)) (firstSlot (keyOf (c .before .args .r))) (c .before .args .n))))
+loop-holds c = (search needs, search needs, omega (arith, ap (λ t. length (joined t)) (from-begin (cellsOf (now (c .before .args .s))) (firstSlot (keyOf (c .before .args .r))) (c .before .args .n))))
 
 list-of-requires : tie.Need-list-of-requires Inv-loop μ-loop
 list-of-requires c κs = (c .before .before .before .pre .0, c .before .before .before .pre .1, omega (arith, c .before .before .before .pre .2))

@@ -4,9 +4,10 @@ use native.Mathlib.Omega.{arith}
 use borrow.Author.Needs.{needs}
 use denote.Ref.{now}
 use lib.ListN.{length}
-use Rattle.requirement.proofs.Copying.{left-start, sum-turn, joined-turn, joined-done}
+use Rattle.requirement.proofs.Copying.{sum-turn, joined-turn, joined-done}
 use Rattle.store.specs.Lent.{joined}
 use Rattle.requirement.specs.Tables.{cellsOf, keyOf, firstSlot}
+use Rattle.rules.proofs.Froms.{from-begin}
 use Rattle.rules.specs.Numbers.{from}
 use Rattle.store.proofs.Runs.{length-run}
 use Rattle.store.specs.Area.{putRun}
@@ -20,7 +21,7 @@ abbrev μ-loop : tie.MeasureT-loop
 μ-loop s r n cells₀ room place₀ j₀ cells place j = n - j
 
 loop-holds : tie.Need-loop-holds Inv-loop μ-loop
-loop-holds c = (search needs, refl, omega (arith, c .before .before .pre .3, ap (λ t. length (joined t)) (left-start (now (c .before .before .args .s)) (firstSlot (keyOf (c .before .before .args .r))) (c .before .before .args .n))), ap (λ t. putRun (record { base = 0; size = length (now (c .before .before .args .cells)) }) 0 (joined t) (now (c .before .before .args .cells))) (left-start (now (c .before .before .args .s)) (firstSlot (keyOf (c .before .before .args .r))) (c .before .before .args .n)))
+loop-holds c = (search needs, refl, omega (arith, c .before .before .pre .3, ap (λ t. length (joined t)) (from-begin (cellsOf (now (c .before .before .args .s))) (firstSlot (keyOf (c .before .before .args .r))) (c .before .before .args .n))), ap (λ t. putRun (record { base = 0; size = length (now (c .before .before .args .cells)) }) 0 (joined t) (now (c .before .before .args .cells))) (from-begin (cellsOf (now (c .before .before .args .s))) (firstSlot (keyOf (c .before .before .args .r))) (c .before .before .args .n)))
 
 list-of-requires : tie.Need-list-of-requires Inv-loop μ-loop
 list-of-requires c κs = (c .before .before .before .before .pre .0, c .before .before .before .before .pre .1, omega (arith, c .before .before .before .before .pre .2))

@@ -4,8 +4,9 @@ use native.Mathlib.Omega.{arith}
 use borrow.Author.Needs.{needs}
 use denote.Ref.{now}
 use lib.ListN.{length, length-set}
-use Rattle.requirement.proofs.Copying.{cells-most, left-start, lengths-turn, lengths-done}
+use Rattle.requirement.proofs.Copying.{cells-most, lengths-turn, lengths-done}
 use Rattle.requirement.specs.Tables.{cellsOf, keyOf, firstSlot}
+use Rattle.rules.proofs.Froms.{from-begin}
 use Rattle.rules.specs.Numbers.{from}
 use Rattle.store.specs.Area.{putRun}
 use Rattle.store.specs.Lent.{lengthsOf}
@@ -19,7 +20,7 @@ abbrev μ-loop : tie.MeasureT-loop
 μ-loop s r n lengths₀ j₀ lengths j = n - j
 
 loop-holds : tie.Need-loop-holds Inv-loop μ-loop
-loop-holds c = (search needs, refl, ap (λ t. putRun (record { base = 0; size = length (now (c .before .before .args .lengths)) }) 0 (lengthsOf t) (now (c .before .before .args .lengths))) (left-start (now (c .before .before .args .s)) (firstSlot (keyOf (c .before .before .args .r))) (c .before .before .args .n)))
+loop-holds c = (search needs, refl, ap (λ t. putRun (record { base = 0; size = length (now (c .before .before .args .lengths)) }) 0 (lengthsOf t) (now (c .before .before .args .lengths))) (from-begin (cellsOf (now (c .before .before .args .s))) (firstSlot (keyOf (c .before .before .args .r))) (c .before .before .args .n)))
 
 list-of-requires : tie.Need-list-of-requires Inv-loop μ-loop
 list-of-requires c κs = (c .before .before .before .before .pre .0, c .before .before .before .before .pre .1, omega (arith, c .before .before .before .before .pre .2))

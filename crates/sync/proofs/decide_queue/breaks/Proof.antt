@@ -1,6 +1,6 @@
 use mathlib.Core.Path.{sym, _∙_}
 use borrow.Author.Needs.{needs}
-use Rattle.evaluate.proofs.Records.{cached-variable}
+use Rattle.meaning.proofs.Records.{cached-variable}
 use Rattle.sync.proofs.Tests.{still-stands, broken-is, none-broken}
 use Rattle.sync.proofs.decide_queue.breaks.Statement.{statement}
 use Rattle.sync.proofs.decide_queue.breaks.Tie as tie

@@ -3,16 +3,18 @@ use Prim.Native.Nat.{_-_, _≤_}
 use native.Mathlib.Omega.{arith}
 use borrow.Author.Needs.{needs}
 use lib.ListN.{length}
+use Rattle.trail.specs.Assignment.{variableAt}
+use Rattle.rules.specs.Numbers.{from}
 use Rattle.store.specs.Area.{area, putRun}
 use Rattle.store.specs.Layout.{mirror, trailLength, trailVariables}
 use Rattle.store.specs.Limits.{trailRoom}
 use Rattle.sync.proofs.Turns.{copy-start, copy-long, copy-kept, copy-turn, copy-done}
-use Rattle.sync.specs.Sync.{wordsFrom, copiedWords}
+use Rattle.sync.specs.Sync.{copiedWords}
 use Rattle.sync.proofs.decide_queue.copy_entries.Statement.{statement}
 use Rattle.sync.proofs.decide_queue.copy_entries.Tie as tie
 
 abbrev Inv-loop : tie.InvT-loop
-Inv-loop s₀ floor len i₀ s i = (floor ≤ i) × (length s ≡ length s₀) × (area trailVariables s ≡ area trailVariables s₀) × (copiedWords s₀ ≡ putRun mirror i (wordsFrom trailVariables s₀ i (len - i)) s)
+Inv-loop s₀ floor len i₀ s i = (floor ≤ i) × (length s ≡ length s₀) × (area trailVariables s ≡ area trailVariables s₀) × (copiedWords s₀ ≡ putRun mirror i (from (variableAt s₀) i (len - i)) s)
 
 abbrev μ-loop : tie.MeasureT-loop
 μ-loop s₀ floor len i₀ s i = len - i
@@ -20,8 +22,8 @@ abbrev μ-loop : tie.MeasureT-loop
 loop-holds : tie.Need-loop-holds Inv-loop μ-loop
 loop-holds c = (omega arith, refl, refl, copy-start _ _ _ (c .before .pre .1 .0) (c .before .pre .1 .1))
 
-trail-variable-requires : tie.Need-trail-variable-requires Inv-loop μ-loop
-trail-variable-requires c κs = (omega (arith, c .before .before .loop .inv .1, c .before .before .before .before .pre .0 .long), omega (arith, c .before .loop-test .taken, c .before .before .before .before .pre .1 .1, c .before .before .before .before .pre .0 .ranges trailLength trailRoom tt 0))
+variable-at-requires : tie.Need-variable-at-requires Inv-loop μ-loop
+variable-at-requires c κs = (omega (arith, c .before .before .loop .inv .1, c .before .before .before .before .pre .0 .long), omega (arith, c .before .loop-test .taken, c .before .before .before .before .pre .1 .1, c .before .before .before .before .pre .0 .ranges trailLength trailRoom tt 0))
 
 mirrored-requires : tie.Need-mirrored-requires Inv-loop μ-loop
 mirrored-requires c κs = (omega (arith, c .before .before .before .before .loop .inv .1, c .before .before .before .before .before .before .pre .0 .long), omega (arith, c .before .before .before .loop-test .taken, c .before .before .before .before .before .before .pre .1 .1, c .before .before .before .before .before .before .pre .0 .ranges trailLength trailRoom tt 0))
@@ -33,7 +35,7 @@ loop-less : tie.Need-loop-less Inv-loop μ-loop
 loop-less c = search needs
 
 loop-again : tie.Need-loop-again Inv-loop μ-loop
-loop-again c = (omega arith, copy-long _ _ _ _ (c .before .before .before .before .before .before .before .loop .inv .1) (c .before .before .before .before .before .before .before .loop .inv .2) (c .before .before .before .before .before .before .before .loop .inv .3) _ _ (c .before .before .before .before .trail-variable .ensures) (c .before .before .mirrored .ensures), copy-kept _ _ _ _ (c .before .before .before .before .before .before .before .loop .inv .1) (c .before .before .before .before .before .before .before .loop .inv .2) (c .before .before .before .before .before .before .before .loop .inv .3) _ _ (c .before .before .before .before .trail-variable .ensures) (c .before .before .mirrored .ensures) (omega (arith, c .before .before .before .before .before .before .loop-test .taken, c .before .before .before .before .before .before .before .before .before .pre .1 .1, c .before .before .before .before .before .before .before .before .before .pre .0 .ranges trailLength trailRoom tt 0)), copy-turn _ _ _ _ (c .before .before .before .before .before .before .before .loop .inv .1) (c .before .before .before .before .before .before .before .loop .inv .2) (c .before .before .before .before .before .before .before .loop .inv .3) _ _ (c .before .before .before .before .trail-variable .ensures) (c .before .before .mirrored .ensures) (c .before .before .before .before .before .before .loop-test .taken))
+loop-again c = (omega arith, copy-long _ _ _ _ (c .before .before .before .before .before .before .before .loop .inv .1) (c .before .before .before .before .before .before .before .loop .inv .2) (c .before .before .before .before .before .before .before .loop .inv .3) _ _ (c .before .before .before .before .variable-at .ensures) (c .before .before .mirrored .ensures), copy-kept _ _ _ _ (c .before .before .before .before .before .before .before .loop .inv .1) (c .before .before .before .before .before .before .before .loop .inv .2) (c .before .before .before .before .before .before .before .loop .inv .3) _ _ (c .before .before .before .before .variable-at .ensures) (c .before .before .mirrored .ensures) (omega (arith, c .before .before .before .before .before .before .loop-test .taken, c .before .before .before .before .before .before .before .before .before .pre .1 .1, c .before .before .before .before .before .before .before .before .before .pre .0 .ranges trailLength trailRoom tt 0)), copy-turn _ _ _ _ (c .before .before .before .before .before .before .before .loop .inv .1) (c .before .before .before .before .before .before .before .loop .inv .2) (c .before .before .before .before .before .before .before .loop .inv .3) _ _ (c .before .before .before .before .variable-at .ensures) (c .before .before .mirrored .ensures) (c .before .before .before .before .before .before .loop-test .taken))
 
 same-length : tie.Need-same-length Inv-loop μ-loop
 same-length c = c .before .loop .inv .1
@@ -48,7 +50,7 @@ copy-entries-spec =
     Inv-loop
     μ-loop
     loop-holds
-    trail-variable-requires
+    variable-at-requires
     mirrored-requires
     add-i
     loop-less

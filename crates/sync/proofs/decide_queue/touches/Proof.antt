@@ -6,8 +6,8 @@ use Rattle.sync.specs.Sync.{touchesIn}
 use Rattle.sync.proofs.decide_queue.touches.Statement.{statement}
 use Rattle.sync.proofs.decide_queue.touches.Tie as tie
 
-sync-floor-requires : tie.Need-sync-floor-requires
-sync-floor-requires c κs = search needs
+floor-requires : tie.Need-floor-requires
+floor-requires c κs = search needs
 
 mirror-length-requires : tie.Need-mirror-length-requires
 mirror-length-requires c κs = search needs
@@ -15,27 +15,27 @@ mirror-length-requires c κs = search needs
 sub-old : tie.Need-sub-old
 sub-old c = search needs
 
-trail-length-requires : tie.Need-trail-length-requires
-trail-length-requires c κs = search needs
+length-requires : tie.Need-length-requires
+length-requires c κs = search needs
 
 sub-result : tie.Need-sub-result
 sub-result c = search needs
 
 add-result : tie.Need-add-result
-add-result c = omega (arith, c .before .mirror-length .ensures, c .trail-length .ensures, c .before .before .before .before .pre .ranges mirrorLength trailRoom tt 0, c .before .before .before .before .pre .ranges trailLength trailRoom tt 0)
+add-result c = omega (arith, c .before .mirror-length .ensures, c .length .ensures, c .before .before .before .before .pre .ranges mirrorLength trailRoom tt 0, c .before .before .before .before .pre .ranges trailLength trailRoom tt 0)
 
 returns : tie.Need-returns
 unfolding touchesIn
-returns c = rw (c .before .before .sync-floor .ensures, c .before .mirror-length .ensures, c .trail-length .ensures)
+returns c = rw (c .before .before .floor .ensures, c .before .mirror-length .ensures, c .length .ensures)
 
 pub touches-spec : {M : Type 1} → statement M
 touches-spec =
     tie.close
     (tie.spec
-    sync-floor-requires
+    floor-requires
     mirror-length-requires
     sub-old
-    trail-length-requires
+    length-requires
     sub-result
     add-result
     returns)

@@ -1,7 +1,7 @@
 use mathlib.Core.Path.{sym, _∙_}
 use native.Mathlib.Omega.{arith}
 use borrow.Author.Needs.{needs}
-use Rattle.evaluate.proofs.Records.{parent-variable, condition-most, requirement-below}
+use Rattle.meaning.proofs.Records.{parent-variable, condition-most, requirement-below}
 use Rattle.store.specs.Layout.{clauseCount}
 use Rattle.store.specs.Limits.{clauses}
 use Rattle.sync.proofs.Tests.{sleeps, wakes-by-parent, wakes-by-condition, wakes-by-cache}

@@ -3,7 +3,7 @@ use Prim.Native.Nat.{_+_, _-_, _≤_}
 use native.Mathlib.Omega.{arith}
 use borrow.Author.Needs.{needs}
 use denote.Ref.{now}
-use Rattle.evaluate.proofs.Reading.{cell-variable}
+use Rattle.meaning.proofs.Reading.{cell-variable}
 use Rattle.sync.proofs.Occurring.{anyOf, cellTouched, cellAt, any-start, any-hit, any-next, any-none, run-any, cell-test}
 use Rattle.sync.specs.Table.{inTable}
 use Rattle.sync.proofs.occurrences.in_cells.Statement.{statement}

@@ -1,7 +1,7 @@
 use mathlib.Core.Path.{ap, _∙_}
 use borrow.Author.Needs.{needs}
-use Rattle.evaluate.proofs.Reading.{span-of}
-use Rattle.evaluate.proofs.Scans.{cells-run}
+use Rattle.meaning.proofs.Reading.{span-of}
+use Rattle.meaning.proofs.Reading.{cells-run}
 use Rattle.rules.specs.Sync.{meets}
 use Rattle.sync.proofs.occurrences.in_list.Statement.{statement}
 use Rattle.sync.proofs.occurrences.in_list.Tie as tie

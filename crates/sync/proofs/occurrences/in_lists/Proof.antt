@@ -3,7 +3,7 @@ use Prim.Native.Nat.{_+_, _-_, _≤_}
 use native.Mathlib.Omega.{arith}
 use borrow.Author.Needs.{needs}
 use denote.Ref.{now}
-use Rattle.evaluate.specs.View.{listAt}
+use Rattle.meaning.specs.View.{listAt}
 use Rattle.sync.proofs.Occurring.{anyOf, listTouched, any-start, any-hit, any-next, any-none, lists-any, list-test}
 use Rattle.sync.specs.Table.{inTable}
 use Rattle.sync.proofs.occurrences.in_lists.Statement.{statement}

@@ -3,8 +3,8 @@ use Prim.Native.Nat.{_+_, _-_, _≤_}
 use native.Mathlib.Omega.{arith}
 use borrow.Author.Needs.{needs}
 use denote.Ref.{now}
-use Rattle.evaluate.proofs.Reading.{literal-variable}
-use Rattle.evaluate.specs.View.{literalAt}
+use Rattle.meaning.proofs.Reading.{literal-variable}
+use Rattle.meaning.specs.View.{literalAt}
 use Rattle.sync.proofs.Occurring.{anyOf, literalTouched, any-start, any-hit, any-next, any-none, literals-any, literal-test}
 use Rattle.sync.specs.Table.{inTable}
 use Rattle.sync.proofs.occurrences.in_literals.Statement.{statement}

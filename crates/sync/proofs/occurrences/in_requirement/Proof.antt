@@ -1,6 +1,6 @@
 use mathlib.Core.Path.{_∙_}
 use borrow.Author.Needs.{needs}
-use Rattle.evaluate.proofs.Reading.{slots-of}
+use Rattle.meaning.proofs.Reading.{slots-of}
 use Rattle.sync.proofs.Occurring.{requirement-lists}
 use Rattle.sync.proofs.occurrences.in_requirement.Statement.{statement}
 use Rattle.sync.proofs.occurrences.in_requirement.Tie as tie

@@ -8,11 +8,11 @@ mirrored-requires c κs = search needs
 returns : tie.Need-returns
 returns c = rw (c .before .if1 .taken) (c .mirrored .ensures)
 
-trail-variable-requires : tie.Need-trail-variable-requires
-trail-variable-requires c κs = search needs
+variable-at-requires : tie.Need-variable-at-requires
+variable-at-requires c κs = search needs
 
 returns-2 : tie.Need-returns-2
-returns-2 c = rw (c .before .if1 .left) (c .trail-variable .ensures)
+returns-2 c = rw (c .before .if1 .left) (c .variable-at .ensures)
 
 pub entry-spec : {M : Type 1} → statement M
-entry-spec = tie.close (tie.spec mirrored-requires returns trail-variable-requires returns-2)
+entry-spec = tie.close (tie.spec mirrored-requires returns variable-at-requires returns-2)

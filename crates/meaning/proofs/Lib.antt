@@ -1,0 +1,5 @@
+pub mod Lists
+pub mod Frames
+pub mod Records
+pub mod Clauses
+pub mod Reading
