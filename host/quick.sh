@@ -19,6 +19,7 @@ if ! diff examples/morning.answers build/morning.answers; then
     echo "host: ./settle examples/morning.script does not print examples/morning.answers" >&2
     exit 1
 fi
+host/scripts.sh
 if ! command -v cargo >/dev/null 2>&1; then
     echo "host: the rest is skipped, there is no cargo here"
     exit 0
