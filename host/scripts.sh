@@ -53,6 +53,8 @@ is out ok
 # ---- what settle ends with
 run() { "$settle" <calls; }
 to_full() { run >/dev/full; }
+tell_full() { "$settle" --tell <calls >/dev/full; }
+tell() { "$settle" --tell calls; }
 ends 0 run
 printf 'vs 300 0\nassign 0 1 0 0\nundo_last\n' >calls
 ends 0 run
@@ -90,6 +92,29 @@ has err 'there is no file no-such-file'
 from_folder() { "$settle" <"$room"; }
 ends 2 from_folder
 has err 'settle: the calls cannot be read'
+
+# ---- sentences
+if command -v python3 >/dev/null 2>&1; then
+    printf 'help\n' >calls
+    ends 0 run
+    cut -d ' ' -f 1 out | sort >listed
+    python3 "$here/host/tell.py" --calls | sort >worded
+    diff listed worded >&2 || fail "tell.py has words for other calls than help lists"
+    printf 'name variable 4 siren-4\nassign 4 1 0 0 # too low\nhot 1\nactivity 1 1073741824\nfrob\nvalue_of 4\n' >calls
+    ends 1 tell
+    has out 'Line 2 is refused, 4: the level is 0 or above 2,147,483,647; nothing has changed.'
+    has out 'Pack 1 has the activity 2.0.'
+    has out 'Line 5 is not understood: "frob" is no call, see help.'
+    has out 'Variable 4 (siren-4) is undecided.'
+    if [ -w /dev/full ]; then
+        ends 2 tell_full
+        has err 'settle: the answers cannot be told'
+    fi
+    ends 0 "$settle" --tell "$here/examples/morning.script"
+    diff "$here/examples/morning.told" out >&2 || fail "./settle --tell examples/morning.script does not print examples/morning.told"
+else
+    echo "scripts.sh: the sentences of settle --tell are skipped, there is no python3 here"
+fi
 
 # ---- a folder of its own, with a stand-in for rt
 mkdir -p copy/host copy/crates/below copy/crates/settle copy/include bin
