@@ -115,6 +115,12 @@ if command -v python3 >/dev/null 2>&1; then
 else
     echo "scripts.sh: the sentences of settle --tell are skipped, there is no python3 here"
 fi
+# The README shows a part of them.
+sed -n '/^    \$ .\/settle --tell/,/^$/s/^    //p' "$here/README.md" | sed -e 1d -e '/^\.\.$/d' -e '/^$/d' >shown
+[ -s shown ] || fail "the README shows no sentences"
+while IFS= read -r line; do
+    grep -qxF -e "$line" "$here/examples/morning.told" || fail "the README shows what --tell does not say: $line"
+done <shown
 
 # ---- a folder of its own, with a stand-in for rt
 mkdir -p copy/host copy/crates/below copy/crates/settle copy/include bin
@@ -178,6 +184,7 @@ ends 0 stood_in copy/settle /dev/null
 
 # ---- without the toolchain
 toolchain=$(sed -n 's/^toolchain=//p' "$here/host/proving.sh")
+has "$here/README.md" "$toolchain"
 mkdir plain
 for tool in sh dirname readlink cat uname; do ln -s "$(command -v "$tool")" plain/; done
 for script in copy/settle copy/host/library.sh; do
