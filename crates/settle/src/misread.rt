@@ -8,7 +8,7 @@ use script::words;
 // The most bytes of a word that are repeated.
 const MOST_REPEATED: usize = 40;
 
-// So many bytes of a line, or fewer where it is over.
+// The bytes from `start` to `end`, if the line has them.
 fn say_from(bytes: &[u8], start: usize, end: usize) -> bool {
     if start <= end {
         if end <= bytes.len() {
