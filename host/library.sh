@@ -6,22 +6,23 @@
 # kit whose clang keeps the module first.
 set -e
 me=library.sh
+first_time="about five minutes on two cores"
 own=$(readlink -f "$0")
 here=$(cd "$(dirname "$own")/.." && pwd)
 . "$here/host/proving.sh"
 
 usage() {
-    cat <<'TEXT'
+    cat <<TEXT
 usage: library.sh [NAME [MACHINE]]
 
 Proves a library and writes build/library/MACHINE/libNAME.a, and for the machine at hand build/library/libNAME.a as well.
 
   NAME        imbolaverk (left out: this one), or inner, for the benchmark
-  MACHINE     x86_64 or aarch64, as `uname -m` says it there (left out: the machine at hand)
+  MACHINE     x86_64 or aarch64, as "uname -m" says it there (left out: the machine at hand)
   --help, -h  this text
   --version   the version
 
-The first time takes about six minutes on two cores.
+The first time takes $first_time.
 TEXT
 }
 

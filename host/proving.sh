@@ -1,4 +1,5 @@
-# What the scripts that prove have in common. A script sources it with `here`, the repository's root, and `me`, its own name.
+# What the scripts that prove have in common. A script sources it with `here`, the repository's root, `me`, its own name, and `first_time`,
+# how long its first proof takes.
 #
 # What stays lies in build/, beside target/, which `rt ci` removes: what was built, each with a stamp of the sources that it was proved
 # from, and the lock that lets one proof run at a time.
@@ -105,7 +106,7 @@ prove() { # NAME COMMAND..
     name=$1
     shift
     log=$here/build/$name.log
-    [ -d "$here/target/stamp" ] || say "the proof comes first; the first time it takes about six minutes on two cores"
+    [ -d "$here/target/stamp" ] || say "the proof comes first; the first time it takes $first_time"
     mkdir -p "$here/target/log"
     rm -f "$here"/target/log/*.say
     # shellcheck disable=SC2046

@@ -38,14 +38,14 @@ grep -q "libimbolaverk.a is missing: run .host/library.sh imbolaverk $(uname -m)
 ! grep -q panicked "$room/err" || fail "without the archive the build panics: $(cat "$room/err")"
 
 # A build looks at the machine that it is for.
-if cargo check --offline --quiet -p imbolaverk --target i686-unknown-linux-gnu 2>"$room/err"; then
+if CARGO_TARGET_DIR=$room/target cargo check --offline --quiet -p imbolaverk --target i686-unknown-linux-gnu 2>"$room/err"; then
     fail "a build for pointers of 32 bits passed"
 fi
 grep -q 'whose pointers have 64 bits' "$room/err" || fail "for pointers of 32 bits: $(cat "$room/err")"
 other=aarch64
 [ "$(uname -m)" != aarch64 ] || other=x86_64
 if [ ! -e "../build/library/$other/libimbolaverk.a" ]; then
-    ! cargo check --offline --quiet -p imbolaverk --target "$other-unknown-linux-gnu" 2>"$room/err" || fail "a build for $other passed"
+    ! CARGO_TARGET_DIR=$room/target cargo check --offline --quiet -p imbolaverk --target "$other-unknown-linux-gnu" 2>"$room/err" || fail "a build for $other passed"
     grep -q "build/library/$other/libimbolaverk.a is missing" "$room/err" || fail "for $other: $(cat "$room/err")"
 fi
 
