@@ -23,22 +23,22 @@ need_rt() {
 # The toolchain's own folder.
 kit() { echo "${RATTLE_HOME:-$(dirname "$(dirname "$(readlink -f "$(command -v rt)")")")}"; }
 
-# The crates that a crate's proof rests on, itself last.
+# The crates that a crate's proof rests on, itself last, in the order in which `rt` proves them: those that rest on none first.
 crates_of() { # NAME
     awk -v wanted="$1" '
-        function mark(name,    i, count, need) {
-            if (!(name in needs) || (name in marked)) return
-            marked[name] = 1
+        function visit(name,    i, count, need, level) {
             count = split(needs[name], need, " ")
-            for (i = 1; i <= count; i++) mark(need[i])
+            for (i = 1; i <= count; i++) {
+                if (!(need[i] in needs)) continue
+                if (!(need[i] in levels)) visit(need[i])
+                if (levels[need[i]] >= level) level = levels[need[i]] + 1
+            }
+            levels[name] = level + 0
+            print levels[name], name
         }
         { sub(/#.*/, "") }
-        split($0, part, ":") == 2 { gsub(/[ \t]/, "", part[1]); listed[++crates] = part[1]; needs[part[1]] = part[2] }
-        END {
-            mark(wanted)
-            for (i = 1; i <= crates; i++) if (listed[i] in marked && listed[i] != wanted) print listed[i]
-            print wanted
-        }' "$here/crates.txt"
+        split($0, part, ":") == 2 { gsub(/[ \t]/, "", part[1]); needs[part[1]] = part[2] }
+        END { visit(wanted) }' "$here/crates.txt" | sort -s -n -k 1,1 | cut -d ' ' -f 2
 }
 
 # One line for the sources of a crate and of all that it rests on, and for the toolchain.
