@@ -6,7 +6,7 @@
 # kit whose clang keeps the module first.
 set -e
 me=library.sh
-first_time="about five minutes on two cores"
+first_time="about six minutes on two cores"
 own=$(readlink -f "$0")
 here=$(cd "$(dirname "$own")/.." && pwd)
 . "$here/host/proving.sh"
