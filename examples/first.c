@@ -2,8 +2,8 @@
  * A first program in C: a pack is loaded, a proposal is asked for, tried, taken back and asked for again. The button has not moved.
  *
  *     host/library.sh
- *     cc -std=c99 -Wall -Wextra -Iinclude examples/first.c target/library/libimbolaverk.a -o target/first
- *     target/first
+ *     cc -std=c99 -Wall -Wextra -Iinclude examples/first.c build/library/libimbolaverk.a -o build/first
+ *     build/first
  *
  * What it prints (it ends with a failure where an answer is another):
  *

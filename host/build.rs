@@ -1,28 +1,37 @@
-//! Links the proved library, which `host/library.sh` writes to target/library in the repository's root; with the feature `inner`, the
-//! benchmark gets the archive of `host/library.sh inner` too.
-use std::path::{Path, PathBuf};
+//! Links the proved library, which `host/library.sh` writes to build/library/MACHINE in the repository's root, for the machine that is
+//! compiled for; `IMBOLAVERK_LIB` names another folder.
+use std::env;
+use std::path::PathBuf;
 
 fn main() {
-    let here = PathBuf::from(std::env::var("CARGO_MANIFEST_DIR").expect("cargo names the package's folder"));
-    let folder = match std::env::var("IMBOLAVERK_LIB") {
-        Ok(given) => PathBuf::from(given),
-        Err(_) => here.join("../target/library"),
-    };
-    println!("cargo:rerun-if-env-changed=IMBOLAVERK_LIB");
-    archive(&folder, "imbolaverk");
-    println!("cargo:rustc-link-search=native={}", folder.display());
-    println!("cargo:rustc-link-lib=static=imbolaverk");
-    if std::env::var_os("CARGO_FEATURE_INNER").is_some() {
-        println!("cargo:rustc-link-arg-bin=bench={}", archive(&folder, "inner").display());
+    if let Err(why) = link() {
+        println!("cargo::error={why}");
     }
 }
 
-/// The archive of a crate, which must be there.
-fn archive(folder: &Path, name: &str) -> PathBuf {
-    let archive = folder.join(format!("lib{name}.a"));
-    println!("cargo:rerun-if-changed={}", archive.display());
-    if !archive.exists() {
-        panic!("{} is missing: run `host/library.sh {name}` first", archive.display());
+fn link() -> Result<(), String> {
+    let target = given("CARGO_CFG_TARGET_ARCH");
+    let bits = given("CARGO_CFG_TARGET_POINTER_WIDTH");
+    if bits != "64" {
+        return Err(format!("the library is for machines whose pointers have 64 bits, and those of {target} have {bits}"));
     }
-    archive
+    println!("cargo::rerun-if-env-changed=IMBOLAVERK_LIB");
+    let folder = match env::var_os("IMBOLAVERK_LIB") {
+        Some(folder) => PathBuf::from(folder),
+        None => PathBuf::from(given("CARGO_MANIFEST_DIR")).with_file_name("build").join("library").join(&target),
+    };
+    let archive = folder.join("libimbolaverk.a");
+    println!("cargo::rerun-if-changed={}", archive.display());
+    if !archive.exists() {
+        return Err(format!("{} is missing: run `host/library.sh imbolaverk {target}` first", archive.display()));
+    }
+    println!("cargo::rustc-link-search=native={}", folder.display());
+    println!("cargo::rustc-link-lib=static=imbolaverk");
+    println!("cargo::metadata=folder={}", folder.display());
+    Ok(())
+}
+
+/// What cargo tells every build script.
+fn given(name: &str) -> String {
+    env::var(name).unwrap_or_else(|_| panic!("cargo gives {name}"))
 }

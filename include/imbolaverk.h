@@ -1,8 +1,12 @@
 /*
  * Imbolaverk: a decision queue over one lent slice of words.
  *
- * Link libimbolaverk.a (`host/library.sh` writes target/library/libimbolaverk.a for the machine at hand). The library allocates nothing and keeps
+ * Link libimbolaverk.a (`host/library.sh` writes build/library/libimbolaverk.a for the machine at hand). The library allocates nothing and keeps
  * nothing between calls: all of its state is in the words that the caller lends. Of the C library it needs memcpy and memset.
+ *
+ * imb_fresh comes first. Nothing can tell a store that was never made fresh from one that was: words that are all zero, as those of a static
+ * array are, are a store of sound shape, empty as a fresh one but in the other mode (IMB_ALL_CLAUSES), and every call takes them. Words
+ * that hold anything else are nearly always refused by IMB_BAD_STORE.
  *
  * Every call takes the store first, as a pointer and its length in words; every other list is a pointer and a length too. An output
  * `out[N]` is a pointer to N words. The pointer of an empty list may be NULL; no other may be. A list or an output that a call writes,
@@ -20,6 +24,9 @@
 
 #include <stddef.h>
 #include <stdint.h>
+
+/* The library's lengths have 64 bits, so a size_t of 4 bytes would pass half of one. */
+typedef char imb_size_t_must_have_8_bytes[sizeof(size_t) == 8 ? 1 : -1];
 
 #ifdef __cplusplus
 extern "C" {
@@ -127,7 +134,7 @@ typedef struct imb_decision {
 /* How many words a store needs. Words beyond them are never read or changed. */
 size_t imb_words(void);
 
-/* Makes a fresh store of any words: nothing loaded, nothing assigned, standard mode. */
+/* Makes a fresh store of any words: nothing loaded, nothing assigned, standard mode. The first call on a store. */
 uint32_t imb_fresh(uint32_t *s, size_t s_len);
 
 /* ---- tables, each loaded once */

@@ -27,14 +27,10 @@
 
 #![warn(missing_docs)]
 
-pub mod generate;
-pub mod original;
 pub mod raw;
-pub mod script;
-
-pub use raw::Decision;
 
 use std::fmt;
+use std::mem::discriminant;
 
 /// How many variables there are: 0 to 511, of which 0 is the root.
 pub const VARIABLES: usize = 512;
@@ -73,6 +69,7 @@ pub const LAST_LEVEL: u32 = 2_147_483_647;
 
 /// Why a call was refused. But for a dead clause, a refused call has changed nothing.
 #[derive(Clone, Copy, Debug, PartialEq, Eq)]
+#[non_exhaustive]
 pub enum Refusal {
     /// 1: the words are too few, or not of sound shape.
     BadStore,
@@ -105,60 +102,46 @@ pub enum Refusal {
     LoadedTwice,
 }
 
+/// Each refusal with its number and its words, which are the header's.
+const REFUSALS: [(u32, Refusal, &str); 12] = [
+    (raw::BAD_STORE, Refusal::BadStore, "the store is too short or not of sound shape"),
+    (raw::BAD_ID, Refusal::BadId, "an id is out of range or not loaded"),
+    (raw::NO_ROOM, Refusal::NoRoom, "there is no room left"),
+    (raw::BAD_LEVEL, Refusal::BadLevel, "the level is 0 or above 2,147,483,647"),
+    (raw::OTHER_VALUE, Refusal::OtherValue, "the variable holds the other value"),
+    (raw::NO_STOP, Refusal::NoStop, "undo has no entry to stop at"),
+    (raw::UNSYNCED, Refusal::Unsynced, "the store is not synced"),
+    (raw::DEAD_CLAUSE, Refusal::DeadClause { clause: 0, dropped: 0 }, "a clause has no candidate left"),
+    (raw::BAD_ACTIVITY, Refusal::BadActivity, "the activity is not a finite number from zero on"),
+    (raw::COLD_ACTIVITY, Refusal::ColdActivity, "standard mode would hold a cold name with an activity above zero"),
+    (raw::MALFORMED, Refusal::Malformed, "the table is malformed"),
+    (raw::LOADED_TWICE, Refusal::LoadedTwice, "it is loaded already"),
+];
+
 impl Refusal {
+    fn row(self) -> (u32, Refusal, &'static str) {
+        let same = |row: &&(u32, Refusal, &str)| discriminant(&row.1) == discriminant(&self);
+        *REFUSALS.iter().find(same).expect("every refusal has a row")
+    }
+
     /// The number that the C entry points answer.
+    #[must_use]
     pub fn number(self) -> u32 {
-        match self {
-            Refusal::BadStore => 1,
-            Refusal::BadId => 2,
-            Refusal::NoRoom => 3,
-            Refusal::BadLevel => 4,
-            Refusal::OtherValue => 5,
-            Refusal::NoStop => 6,
-            Refusal::Unsynced => 7,
-            Refusal::DeadClause { .. } => 8,
-            Refusal::BadActivity => 9,
-            Refusal::ColdActivity => 10,
-            Refusal::Malformed => 11,
-            Refusal::LoadedTwice => 12,
-        }
+        self.row().0
     }
 
     fn of(number: u32) -> Refusal {
-        match number {
-            1 => Refusal::BadStore,
-            2 => Refusal::BadId,
-            3 => Refusal::NoRoom,
-            4 => Refusal::BadLevel,
-            5 => Refusal::OtherValue,
-            6 => Refusal::NoStop,
-            7 => Refusal::Unsynced,
-            9 => Refusal::BadActivity,
-            10 => Refusal::ColdActivity,
-            11 => Refusal::Malformed,
-            12 => Refusal::LoadedTwice,
-            _ => unreachable!("the library answers 0 to 12, and 8 only to a proposal"),
-        }
+        let row = REFUSALS.iter().find(|row| row.0 == number);
+        row.unwrap_or_else(|| panic!("the library answered {number}, which is no refusal")).1
     }
 }
 
 impl fmt::Display for Refusal {
     fn fmt(&self, f: &mut fmt::Formatter<'_>) -> fmt::Result {
-        let said = match self {
-            Refusal::BadStore => "the store is too short or not of sound shape",
-            Refusal::BadId => "an id is out of range or not loaded",
-            Refusal::NoRoom => "there is no room left",
-            Refusal::BadLevel => "the level is 0 or above 2,147,483,647",
-            Refusal::OtherValue => "the variable holds the other value",
-            Refusal::NoStop => "undo has no entry to stop at",
-            Refusal::Unsynced => "the store is not synced",
-            Refusal::DeadClause { clause, .. } => return write!(f, "clause {clause} has no candidate left"),
-            Refusal::BadActivity => "the activity is not a finite number from zero on",
-            Refusal::ColdActivity => "standard mode would hold a cold name with an activity above zero",
-            Refusal::Malformed => "the table is malformed",
-            Refusal::LoadedTwice => "it is loaded already",
-        };
-        f.write_str(said)
+        match self {
+            Refusal::DeadClause { clause, .. } => write!(f, "clause {clause} has no candidate left"),
+            other => f.write_str(other.row().2),
+        }
     }
 }
 
@@ -175,10 +158,11 @@ pub enum Requirement {
 
 impl Requirement {
     /// The kind and the id that the C entry points take for it.
+    #[must_use]
     pub fn words(self) -> (u32, u32) {
         match self {
-            Requirement::Single(id) => (0, id),
-            Requirement::Union(id) => (1, id),
+            Requirement::Single(id) => (raw::SINGLE, id),
+            Requirement::Union(id) => (raw::UNION, id),
         }
     }
 }
@@ -195,10 +179,11 @@ pub enum Condition {
 impl Condition {
     /// The number that the C entry points take for it. The largest number means no condition, so as a disjunction's id it becomes
     /// another one that is out of range.
+    #[must_use]
     pub fn word(self) -> u32 {
         match self {
-            Condition::None => u32::MAX,
-            Condition::Disjunction(id) => id.min(u32::MAX - 1),
+            Condition::None => raw::NO_CONDITION,
+            Condition::Disjunction(id) => id.min(raw::NO_CONDITION - 1),
         }
     }
 }
@@ -236,8 +221,46 @@ pub enum Conjunct {
     Empty(Vec<u32>),
 }
 
+/// Which clauses a proposal looks at behind the first that is open.
+#[derive(Clone, Copy, Debug, PartialEq, Eq)]
+pub enum Mode {
+    /// Those of hot names alone.
+    Standard,
+    /// All.
+    AllClauses,
+}
+
+impl Mode {
+    /// The number that the C entry points take for it.
+    #[must_use]
+    pub fn word(self) -> u32 {
+        match self {
+            Mode::Standard => raw::STANDARD,
+            Mode::AllClauses => raw::ALL_CLAUSES,
+        }
+    }
+}
+
+/// One entry of the trail.
+#[derive(Clone, Copy, Debug, PartialEq, Eq)]
+pub struct Decision {
+    /// The variable that was assigned.
+    pub variable: u32,
+    /// Whether it was assigned true.
+    pub value: bool,
+    /// The clause that it was assigned for.
+    pub clause: u32,
+}
+
+impl From<raw::Decision> for Decision {
+    fn from(entry: raw::Decision) -> Decision {
+        Decision { variable: entry.variable, value: entry.value == raw::TRUE, clause: entry.clause }
+    }
+}
+
 /// "Settle this next."
 #[derive(Clone, Copy, Debug, PartialEq)]
+#[must_use]
 pub struct Proposal {
     /// The variable to decide.
     pub candidate: u32,
@@ -253,6 +276,7 @@ pub struct Proposal {
 
 /// What a store says when it is asked for a proposal.
 #[derive(Clone, Copy, Debug, PartialEq)]
+#[must_use]
 pub struct Asked {
     /// Nothing is left to settle if there is none.
     pub proposal: Option<Proposal>,
@@ -279,9 +303,22 @@ pub struct Popped {
 }
 
 /// A whole store in words of its own.
-#[derive(Clone, Debug, PartialEq, Eq)]
+#[derive(Clone, PartialEq, Eq)]
 pub struct Store {
     words: Vec<u32>,
+}
+
+/// The words are too many to be read: how many there are, the trail and the mode, or why there are none.
+impl fmt::Debug for Store {
+    fn fmt(&self, f: &mut fmt::Formatter<'_>) -> fmt::Result {
+        let mut told = f.debug_struct("Store");
+        told.field("words", &self.words.len());
+        match (self.trail_length(), self.mode()) {
+            (Ok(entries), Ok(mode)) => told.field("trail_length", &entries).field("mode", &mode),
+            (Err(refusal), _) | (_, Err(refusal)) => told.field("refused", &refusal),
+        };
+        told.finish_non_exhaustive()
+    }
 }
 
 impl Default for Store {
@@ -291,7 +328,7 @@ impl Default for Store {
 }
 
 fn done(number: u32) -> Result<(), Refusal> {
-    if number == 0 {
+    if number == raw::DONE {
         Ok(())
     } else {
         Err(Refusal::of(number))
@@ -304,23 +341,28 @@ fn done(number: u32) -> Result<(), Refusal> {
 // asked of the words or the numbers, since every call answers on any of them.
 impl Store {
     /// How many words a store needs.
+    #[must_use]
     pub fn size() -> usize {
         unsafe { raw::imb_words() }
     }
 
     /// A fresh store: no tables, no clauses, an empty trail, standard mode.
+    #[must_use]
     pub fn new() -> Store {
         let mut store = Store { words: vec![0; Store::size()] };
         store.make_fresh().expect("a store of this size can be made fresh");
         store
     }
 
-    /// Any words as a store; every call but `make_fresh` refuses words of unsound shape.
+    /// Any words as a store; every call but `make_fresh` refuses words of unsound shape. Words that are all zero are of sound shape: an
+    /// empty store that is not in standard mode, as a fresh one is.
+    #[must_use]
     pub fn from_words(words: Vec<u32>) -> Store {
         Store { words }
     }
 
     /// The words, for keeping a store or looking at it.
+    #[must_use]
     pub fn words(&self) -> &[u32] {
         &self.words
     }
@@ -368,7 +410,7 @@ impl Store {
     /// Loads a disjunction of literals, each a variable and whether it is negated.
     pub fn load_disjunction(&mut self, disjunction: u32, literals: &[(u32, bool)]) -> Result<(), Refusal> {
         let variables: Vec<u32> = literals.iter().map(|literal| literal.0).collect();
-        let signs: Vec<u32> = literals.iter().map(|literal| literal.1 as u32).collect();
+        let signs: Vec<u32> = literals.iter().map(|literal| if literal.1 { raw::NEGATED } else { raw::PLAIN }).collect();
         let (s, n) = self.lent();
         done(unsafe {
             raw::imb_load_disjunction(s, n, disjunction, variables.as_ptr(), variables.len(), signs.as_ptr(), signs.len())
@@ -378,9 +420,9 @@ impl Store {
     /// Loads a node of a condition tree; its children are smaller nodes.
     pub fn load_condition(&mut self, node: u32, content: Node) -> Result<(), Refusal> {
         let (kind, left, right) = match content {
-            Node::Leaf { version_set } => (0, version_set, 0),
-            Node::And { left, right } => (1, left, right),
-            Node::Or { left, right } => (2, left, right),
+            Node::Leaf { version_set } => (raw::LEAF, version_set, 0),
+            Node::And { left, right } => (raw::AND, left, right),
+            Node::Or { left, right } => (raw::OR, left, right),
         };
         let (s, n) = self.lent();
         done(unsafe { raw::imb_load_condition(s, n, node, kind, left, right) })
@@ -405,18 +447,19 @@ impl Store {
         done(unsafe { raw::imb_set_activity(s, n, name, activity) })
     }
 
-    /// Standard mode, or not.
-    pub fn set_mode(&mut self, standard: bool) -> Result<(), Refusal> {
+    /// Sets the mode.
+    pub fn set_mode(&mut self, mode: Mode) -> Result<(), Refusal> {
         let (s, n) = self.lent();
-        done(unsafe { raw::imb_set_mode(s, n, standard as u32) })
+        done(unsafe { raw::imb_set_mode(s, n, mode.word()) })
     }
 
     /// Assigns a value to a variable at a level, for a clause.
     pub fn assign(&mut self, variable: u32, value: bool, level: u32, clause: u32) -> Result<Assigned, Refusal> {
         let mut out = [0];
         let (s, n) = self.lent();
-        done(unsafe { raw::imb_assign(s, n, variable, value as u32, level, clause, out.as_mut_ptr()) })?;
-        Ok(if out[0] == 1 { Assigned::New } else { Assigned::Already })
+        let value = if value { raw::TRUE } else { raw::FALSE };
+        done(unsafe { raw::imb_assign(s, n, variable, value, level, clause, out.as_mut_ptr()) })?;
+        Ok(if out[0] == raw::YES { Assigned::New } else { Assigned::Already })
     }
 
     /// Takes the last entry back; the only entry stays, and is refused.
@@ -425,7 +468,7 @@ impl Store {
         let (s, n) = self.lent();
         done(unsafe { raw::imb_undo_last(s, n, out.as_mut_ptr()) })?;
         let [variable, value, clause, level] = out;
-        Ok(Popped { decision: Decision { variable, value, clause }, level })
+        Ok(Popped { decision: raw::Decision { variable, value, clause }.into(), level })
     }
 
     /// Takes entries back while the last one's level is above `level`; 0 clears the trail.
@@ -440,7 +483,7 @@ impl Store {
         let (s, n) = self.lent();
         done(unsafe { raw::imb_next_unpropagated(s, n, out.as_mut_ptr()) })?;
         let [found, variable, value, clause] = out;
-        Ok((found == 1).then_some(Decision { variable, value, clause }))
+        Ok((found == raw::YES).then(|| raw::Decision { variable, value, clause }.into()))
     }
 
     /// A variable's value and level, if it has them.
@@ -448,7 +491,7 @@ impl Store {
         let mut out = [0; 2];
         let (s, n) = self.read();
         done(unsafe { raw::imb_value_of(s, n, variable, out.as_mut_ptr()) })?;
-        Ok((out[0] != 2).then_some((out[0] == 1, out[1])))
+        Ok((out[0] != raw::UNDECIDED).then_some((out[0] == raw::TRUE, out[1])))
     }
 
     /// The clause of a variable's first entry, if it has one.
@@ -456,7 +499,7 @@ impl Store {
         let mut out = [0; 2];
         let (s, n) = self.read();
         done(unsafe { raw::imb_clause_of(s, n, variable, out.as_mut_ptr()) })?;
-        Ok((out[0] == 1).then_some(out[1]))
+        Ok((out[0] == raw::YES).then_some(out[1]))
     }
 
     /// How many entries the trail has.
@@ -470,12 +513,11 @@ impl Store {
     /// The whole trail, into a list of `room` decisions; a shorter one is refused. No answer needs more than [`TRAIL_ENTRIES`], so no
     /// more are lent.
     pub fn trail_in(&self, room: usize) -> Result<Vec<Decision>, Refusal> {
-        let mut list = vec![Decision::default(); room.min(TRAIL_ENTRIES)];
+        let mut list = vec![raw::Decision::default(); room.min(TRAIL_ENTRIES)];
         let mut out = [0];
         let (s, n) = self.read();
         done(unsafe { raw::imb_copy_trail(s, n, list.as_mut_ptr(), list.len(), out.as_mut_ptr()) })?;
-        list.truncate(out[0] as usize);
-        Ok(list)
+        Ok(list[..out[0] as usize].iter().map(|&entry| entry.into()).collect())
     }
 
     /// The whole trail.
@@ -520,8 +562,8 @@ impl Store {
         let (mut kinds, mut starts, mut lengths, mut cells) = (vec![], vec![], vec![], vec![]);
         for conjunct in conjuncts {
             let (kind, own): (u32, &[u32]) = match conjunct {
-                Conjunct::Solvables(own) => (0, own),
-                Conjunct::Empty(own) => (1, own),
+                Conjunct::Solvables(own) => (raw::SOLVABLES, own),
+                Conjunct::Empty(own) => (raw::EMPTY, own),
             };
             kinds.push(kind);
             starts.push(cells.len() as u32);
@@ -545,7 +587,7 @@ impl Store {
                 out.as_mut_ptr(),
             )
         })?;
-        Ok(out[0] == 1)
+        Ok(out[0] == raw::YES)
     }
 
     /// Brings the queue up to date; answers the number of touches.
@@ -558,24 +600,24 @@ impl Store {
 
     /// Asks for the next proposal.
     pub fn propose(&mut self) -> Result<Asked, Refusal> {
-        let mut out = [0; 7];
+        let mut out = [0; raw::PROPOSAL_WORDS as usize];
         let (s, n) = self.lent();
         let number = unsafe { raw::imb_propose(s, n, out.as_mut_ptr()) };
         let [found, candidate, parent, clause, activity, count, dropped] = out;
-        if number == 8 {
+        if number == raw::DEAD_CLAUSE {
             return Err(Refusal::DeadClause { clause, dropped });
         }
         done(number)?;
         let proposal = Proposal { candidate, parent, clause, activity: f32::from_bits(activity), count };
-        Ok(Asked { proposal: (found == 1).then_some(proposal), dropped })
+        Ok(Asked { proposal: (found == raw::YES).then_some(proposal), dropped })
     }
 
-    /// Whether the store is in standard mode.
-    pub fn is_standard(&self) -> Result<bool, Refusal> {
+    /// The mode.
+    pub fn mode(&self) -> Result<Mode, Refusal> {
         let mut out = [0];
         let (s, n) = self.read();
         done(unsafe { raw::imb_settings(s, n, out.as_mut_ptr()) })?;
-        Ok(out[0] == 1)
+        Ok(if out[0] == raw::STANDARD { Mode::Standard } else { Mode::AllClauses })
     }
 
     /// A name's activity, and whether it is hot.
@@ -583,7 +625,7 @@ impl Store {
         let mut out = [0; 2];
         let (s, n) = self.read();
         done(unsafe { raw::imb_name(s, n, name, out.as_mut_ptr()) })?;
-        Ok((f32::from_bits(out[0]), out[1] == 1))
+        Ok((f32::from_bits(out[0]), out[1] == raw::YES))
     }
 }
 
@@ -622,17 +664,28 @@ mod tests {
             .collect()
     }
 
-    /// The header's `IMB_.. = number` of an answer.
-    fn answer(name: &str) -> u32 {
-        let line = HEADER.lines().find_map(|line| line.trim().strip_prefix(name)?.strip_prefix(" = ")).expect("an answer");
-        let digits: String = line.chars().take_while(char::is_ascii_digit).collect();
-        digits.parse().expect("a number")
+    /// The header's `IMB_.. = number` of its enums.
+    fn enumerated() -> BTreeMap<&'static str, u32> {
+        HEADER
+            .match_indices("IMB_")
+            .filter_map(|(at, _)| {
+                let (name, rest) = HEADER[at..].split_once(" = ")?;
+                let digits = rest.split(|c: char| !c.is_ascii_digit()).next()?;
+                name.bytes().all(|byte| byte.is_ascii_uppercase() || byte == b'_').then_some((name, digits.parse().ok()?))
+            })
+            .collect()
+    }
+
+    /// The header's `case IMB_..: return "words";` of each answer.
+    fn worded() -> BTreeMap<&'static str, &'static str> {
+        let row = |line: &'static str| line.trim().strip_prefix("case ")?.strip_suffix("\";")?.split_once(": return \"");
+        HEADER.lines().filter_map(row).collect()
     }
 
     #[test]
     fn the_header_has_the_same_sizes() {
         let sizes = [
-            ("IMB_NO_CONDITION", Condition::None.word() as usize),
+            ("IMB_NO_CONDITION", raw::NO_CONDITION as usize),
             ("IMB_WORDS", Store::size()),
             ("IMB_VARIABLES", VARIABLES),
             ("IMB_CLAUSES", CLAUSES),
@@ -655,43 +708,59 @@ mod tests {
     }
 
     #[test]
-    fn refusals_have_the_numbers_of_the_header() {
-        let named = [
-            ("IMB_BAD_STORE", Refusal::BadStore),
-            ("IMB_BAD_ID", Refusal::BadId),
-            ("IMB_NO_ROOM", Refusal::NoRoom),
-            ("IMB_BAD_LEVEL", Refusal::BadLevel),
-            ("IMB_OTHER_VALUE", Refusal::OtherValue),
-            ("IMB_NO_STOP", Refusal::NoStop),
-            ("IMB_UNSYNCED", Refusal::Unsynced),
-            ("IMB_DEAD_CLAUSE", Refusal::DeadClause { clause: 0, dropped: 0 }),
-            ("IMB_BAD_ACTIVITY", Refusal::BadActivity),
-            ("IMB_COLD_ACTIVITY", Refusal::ColdActivity),
-            ("IMB_MALFORMED", Refusal::Malformed),
-            ("IMB_LOADED_TWICE", Refusal::LoadedTwice),
-        ];
-        for (name, refusal) in named {
-            assert_eq!(refusal.number(), answer(name), "{name}");
-            if answer(name) != 8 {
-                assert_eq!(Refusal::of(answer(name)), refusal, "{name}");
+    fn the_header_has_the_same_numbers() {
+        assert_eq!(raw::CODES.iter().copied().collect::<BTreeMap<_, _>>(), enumerated());
+    }
+
+    #[test]
+    fn refusals_have_the_numbers_and_the_words_of_the_header() {
+        let numbers = enumerated();
+        let mut told: BTreeMap<u32, &str> = worded().into_iter().map(|(name, words)| (numbers[name], words)).collect();
+        assert_eq!(told.remove(&raw::DONE), Some("done"));
+        assert_eq!(told, REFUSALS.iter().map(|row| (row.0, row.2)).collect());
+        for (number, refusal, words) in REFUSALS {
+            assert_eq!((refusal.number(), Refusal::of(number)), (number, refusal));
+            if number != raw::DEAD_CLAUSE {
+                assert_eq!(refusal.to_string(), words);
             }
         }
+        assert_eq!(Refusal::DeadClause { clause: 7, dropped: 0 }.to_string(), "clause 7 has no candidate left");
+    }
+
+    #[test]
+    fn a_store_is_shown_in_a_line() -> Result<(), Refusal> {
+        let mut store = Store::new();
+        store.assign(7, true, 1, 0)?;
+        assert_eq!(format!("{store:?}"), format!("Store {{ words: {}, trail_length: 1, mode: Standard, .. }}", Store::size()));
+        assert_eq!(format!("{:?}", Store::from_words(vec![0; 4])), "Store { words: 4, refused: BadStore, .. }");
+        Ok(())
+    }
+
+    #[test]
+    fn zeros_are_an_empty_store_in_the_other_mode() -> Result<(), Refusal> {
+        let mut zeros = Store::from_words(vec![0; Store::size()]);
+        assert_eq!((zeros.mode()?, zeros.trail_length()?), (Mode::AllClauses, 0));
+        assert_eq!(zeros.propose()?, Asked { proposal: None, dropped: 0 });
+        zeros.make_fresh()?;
+        assert_eq!(zeros.mode()?, Mode::Standard);
+        assert_eq!(zeros, Store::new());
+        Ok(())
     }
 
     #[test]
     fn settings_names_and_the_trail_are_told() -> Result<(), Refusal> {
         let mut store = Store::new();
-        assert!(store.is_standard()?);
+        assert_eq!(store.mode()?, Mode::Standard);
         store.mark_hot(3)?;
         store.set_activity(3, 2.5)?;
-        store.set_mode(false)?;
+        store.set_mode(Mode::AllClauses)?;
         store.assign(7, true, 1, 0)?;
-        assert!(!store.is_standard()?);
+        assert_eq!(store.mode()?, Mode::AllClauses);
         assert_eq!(store.name(3)?, (2.5, true));
         assert_eq!(store.name(4)?, (0.0, false));
         assert_eq!(store.name(128), Err(Refusal::BadId));
         assert_eq!(store.trail_length()?, 1);
-        assert!(store.trail()?[0].is_true());
+        assert_eq!(store.trail()?, [Decision { variable: 7, value: true, clause: 0 }]);
         Ok(())
     }
 

@@ -8,18 +8,64 @@
 pub struct Decision {
     /// The variable that was assigned.
     pub variable: u32,
-    /// Its value: 0 false, 1 true.
+    /// Its value, [`FALSE`] or [`TRUE`].
     pub value: u32,
     /// The clause that it was assigned for.
     pub clause: u32,
 }
 
-impl Decision {
-    /// Whether the variable was assigned true.
-    pub fn is_true(&self) -> bool {
-        self.value == 1
-    }
+/// Names numbers as the header does, and lists them for the test that holds them to it.
+macro_rules! codes {
+    ($($name:ident = $number:expr, $meaning:literal;)*) => {
+        $(#[doc = $meaning] pub const $name: u32 = $number;)*
+        #[cfg(test)]
+        pub(crate) const CODES: &[(&str, u32)] = &[$((concat!("IMB_", stringify!($name)), $number)),*];
+    };
 }
+
+codes! {
+    DONE = 0, "What a call answers that was not refused.";
+    BAD_STORE = 1, "The refusal of a store that is too short or not of sound shape.";
+    BAD_ID = 2, "The refusal of an id that is out of range or not loaded.";
+    NO_ROOM = 3, "The refusal where there is no room left.";
+    BAD_LEVEL = 4, "The refusal of a level.";
+    OTHER_VALUE = 5, "The refusal where the variable holds the other value.";
+    NO_STOP = 6, "The refusal of an undo that has no entry to stop at.";
+    UNSYNCED = 7, "The refusal of a store that is not synced.";
+    DEAD_CLAUSE = 8, "The refusal where a clause has no candidate left.";
+    BAD_ACTIVITY = 9, "The refusal of an activity.";
+    COLD_ACTIVITY = 10, "The refusal where standard mode would hold a cold name with an activity above zero.";
+    MALFORMED = 11, "The refusal of a malformed table.";
+    LOADED_TWICE = 12, "The refusal of what is loaded already.";
+    FALSE = 0, "A value.";
+    TRUE = 1, "A value.";
+    UNDECIDED = 2, "No value, an answer of `imb_value_of` alone.";
+    PLAIN = 0, "A literal's sign.";
+    NEGATED = 1, "A literal's sign.";
+    SINGLE = 0, "The kind of a requirement: a version set.";
+    UNION = 1, "The kind of a requirement: a union.";
+    LEAF = 0, "The kind of a condition node.";
+    AND = 1, "The kind of a condition node.";
+    OR = 2, "The kind of a condition node.";
+    SOLVABLES = 0, "The kind of a conjunct.";
+    EMPTY = 1, "The kind of a conjunct.";
+    ALL_CLAUSES = 0, "The mode in which every clause is looked at.";
+    STANDARD = 1, "Standard mode.";
+    PROPOSAL_FOUND = 0, "Where a proposal's word stands that says whether there is one.";
+    PROPOSAL_CANDIDATE = 1, "Where a proposal's candidate stands.";
+    PROPOSAL_PARENT = 2, "Where a proposal's parent stands.";
+    PROPOSAL_CLAUSE = 3, "Where a proposal's clause stands, and the dead clause's id.";
+    PROPOSAL_ACTIVITY = 4, "Where the bits of a proposal's activity stand.";
+    PROPOSAL_COUNT = 5, "Where a proposal's count stands.";
+    PROPOSAL_DROPPED = 6, "Where the number of dropped clauses stands.";
+    PROPOSAL_WORDS = 7, "How many words a proposal has.";
+}
+
+/// What found, new, hot and holds are where it is so.
+pub const YES: u32 = 1;
+
+/// The condition of a clause that has none.
+pub const NO_CONDITION: u32 = u32::MAX;
 
 /// Declares calls on a store, `mut` where a call may change it and `const` where it cannot: each takes the store's words and their
 /// number first, and answers 0 or the number of its refusal.

@@ -15,7 +15,7 @@ const TERMS: usize = limits::MOST_TERMS;
 // The most version sets that they have together.
 const SETS: usize = TERMS * limits::MOST_SETS;
 
-fn say_assigned(answer: Assigned) {
+fn say_assigned(answer: Assigned) -> bool {
     match answer {
         Assigned::New => say::text(b"new\n"),
         Assigned::Already => say::text(b"already\n"),
@@ -23,29 +23,29 @@ fn say_assigned(answer: Assigned) {
     }
 }
 
-fn say_until(answer: Until) {
+fn say_until(answer: Until) -> bool {
     match answer {
         Until::Done => say::text(b"done\n"),
         Until::Refused(n) => say::refused(n),
     }
 }
 
-fn say_rewritten(answer: Rewritten) {
+fn say_rewritten(answer: Rewritten) -> bool {
     match answer {
         Rewritten::Terms { terms, cells } => {
-            say::number(terms);
-            say::text(b" terms of");
-            say::word(cells);
-            say::text(b" version sets together\n");
+            say::number(terms)
+                && say::text(b" terms of")
+                && say::word(cells)
+                && say::text(b" version sets together\n")
         }
         Rewritten::Refused(n) => say::refused(n),
     }
 }
 
 // Loading is expected to be done: only a refusal is told.
-fn expect_loaded(answer: Loaded) {
+fn expect_loaded(answer: Loaded) -> bool {
     match answer {
-        Loaded::Done => {}
+        Loaded::Done => true,
         Loaded::Refused(n) => say::refused(n),
     }
 }
@@ -125,16 +125,16 @@ fn try_conditions(words: &[u32]) {
     try_short(words, 7);
 }
 
-fn say_registered(answer: Registered) {
+fn say_registered(answer: Registered) -> bool {
     match answer {
         Registered::Done => say::text(b"done\n"),
         Registered::Refused(n) => say::refused(n),
     }
 }
 
-fn load_candidates(words: &mut [u32]) {
+fn load_candidates(words: &mut [u32]) -> bool {
     match requirement::load_candidates(words, 0, 0, &[1], &[1]) {
-        requirement::Loaded::Done => {}
+        requirement::Loaded::Done => true,
         requirement::Loaded::Refused(n) => say::refused(n),
     }
 }

@@ -6,7 +6,7 @@ use trail::Assigned;
 use trail::Undone;
 use trail::Valued;
 
-fn say_assigned(answer: Assigned) {
+fn say_assigned(answer: Assigned) -> bool {
     match answer {
         Assigned::New => say::text(b"new\n"),
         Assigned::Already => say::text(b"already\n"),
@@ -14,25 +14,23 @@ fn say_assigned(answer: Assigned) {
     }
 }
 
-fn say_undone(answer: Undone) {
+fn say_undone(answer: Undone) -> bool {
     match answer {
         Undone::Popped(decision, level) => {
-            say::text(b"popped variable");
-            say::word(decision.variable);
-            say::text(b" of clause");
-            say::word(decision.clause);
-            say::named(b"; the last entry is at level", level);
+            say::text(b"popped variable")
+                && say::word(decision.variable)
+                && say::text(b" of clause")
+                && say::word(decision.clause)
+                && say::named(b"; the last entry is at level", level)
         }
         Undone::Refused(n) => say::refused(n),
     }
 }
 
-fn say_value(answer: Valued) {
+fn say_value(answer: Valued) -> bool {
     match answer {
         Valued::Decided { value, level } => {
-            say::text(b"value");
-            say::word(value);
-            say::named(b" at level", level);
+            say::text(b"value") && say::word(value) && say::named(b" at level", level)
         }
         Valued::Undecided => say::text(b"undecided\n"),
         Valued::Refused(n) => say::refused(n),

@@ -1,48 +1,48 @@
-// The form of each call: how the words behind its name are to be, one letter a word.
-//   n a number    k s or u    o leaf, and, or    c a number or -    l a number or ;    x none
+// The form of each call: how the words behind its name are to be, one letter a word. `expected` says each letter in words.
+//   n a number    v 0 or 1 of a value    m 0 or 1 of the mode    a an activity    k s or u    o leaf, and, or    c a number or -
+//   l a number or ;    x none    t variable, pack, set, union, clause    w any word
 use crate::names;
 use crate::words;
 
-// What a line is: a call in its form, a comment, or why it is neither.
+// What a line is: a call in its form, or why it is none. A word that is not as its letter asks is told with both.
 pub enum Heard {
     Well,
-    Comment,
     NoSuchCall,
-    WrongCount,
-    NoNumber,
-    WrongWord,
+    TooFew,
+    TooMany,
+    Wrong(usize, u8),
 }
 
-fn a_number(word: u64) -> Heard {
-    if words::is_number(word) {
-        return Heard::Well;
-    }
-    Heard::NoNumber
+// The letter of a `;` that does not stand between two numbers.
+pub const BETWEEN: u8 = b';';
+
+fn is_kind(word: u64) -> bool {
+    word == names::SINGLE || word == names::UNION_KIND
 }
 
-fn a_number_or(word: u64, other: u64) -> Heard {
-    if word == other {
-        return Heard::Well;
-    }
-    a_number(word)
+fn is_node_kind(word: u64) -> bool {
+    word == names::LEAF || word == names::AND || word == names::OR
 }
 
-fn one_of(word: u64, a: u64, b: u64, c: u64) -> Heard {
-    if word == a || word == b || word == c {
-        return Heard::Well;
+fn is_named_kind(word: u64) -> bool {
+    match word {
+        names::VARIABLE..=names::CLAUSE => true,
+        _ => word == names::UNION,
     }
-    Heard::WrongWord
 }
 
 // Whether a word has the form of a letter.
-fn fit(word: u64, letter: u8) -> Heard {
+fn fit(word: u64, letter: u8) -> bool {
     match letter {
-        b'n' => a_number(word),
-        b'c' => a_number_or(word, names::DASH),
-        b'l' => a_number_or(word, names::SEMICOLON),
-        b'k' => one_of(word, names::SINGLE, names::UNION_KIND, names::UNION_KIND),
-        b'o' => one_of(word, names::LEAF, names::AND, names::OR),
-        _ => one_of(word, names::NONE, names::NONE, names::NONE),
+        b'n' | b'v' | b'm' => words::is_number(word),
+        b'a' => words::is_number(word) || words::is_fraction(word),
+        b'c' => words::is_number(word) || word == names::DASH,
+        b'l' => words::is_number(word) || word == names::SEMICOLON,
+        b'k' => is_kind(word),
+        b'o' => is_node_kind(word),
+        b't' => is_named_kind(word),
+        b'x' => word == names::NONE,
+        _ => true,
     }
 }
 
@@ -61,9 +61,9 @@ fn letter(form: &[u8], i: usize) -> u8 {
 fn fit_all(line: &[u64], form: &[u8]) -> Heard {
     let mut i: usize = 1;
     while i < line.len() {
-        match fit(line[i], letter(form, i - 1)) {
-            Heard::Well => {}
-            heard => return heard,
+        let asked = letter(form, i - 1);
+        if !fit(line[i], asked) {
+            return Heard::Wrong(i, asked);
         }
         i += 1;
     }
@@ -72,11 +72,11 @@ fn fit_all(line: &[u64], form: &[u8]) -> Heard {
 
 // One word for each letter.
 fn fits(line: &[u64], form: &[u8]) -> Heard {
-    if line.len() == 0 {
-        return Heard::WrongCount;
+    if line.len() <= form.len() {
+        return Heard::TooFew;
     }
-    if line.len() - 1 != form.len() {
-        return Heard::WrongCount;
+    if form.len() < line.len() - 1 {
+        return Heard::TooMany;
     }
     fit_all(line, form)
 }
@@ -84,7 +84,7 @@ fn fits(line: &[u64], form: &[u8]) -> Heard {
 // The same, but that the last letter stands for any number of words.
 fn fits_on(line: &[u64], form: &[u8]) -> Heard {
     if line.len() < form.len() {
-        return Heard::WrongCount;
+        return Heard::TooFew;
     }
     fit_all(line, form)
 }
@@ -108,7 +108,7 @@ fn fits_lists(line: &[u64]) -> Heard {
 // Literals, two words each.
 fn fits_literals(line: &[u64]) -> Heard {
     if line.len() % 2 == 1 {
-        return Heard::WrongCount;
+        return Heard::TooFew;
     }
     fits_on(line, b"nn")
 }
@@ -131,7 +131,7 @@ fn no_list_empty(line: &[u64]) -> Heard {
     let mut i: usize = 1;
     while i < line.len() {
         if !well_placed(line, i) {
-            return Heard::NoNumber;
+            return Heard::Wrong(i, BETWEEN);
         }
         i += 1;
     }
@@ -163,16 +163,19 @@ fn hear_long(line: &[u64], call: u64) -> Heard {
 pub fn hear(line: &[u64]) -> Heard {
     let call = words::word(line, 0);
     match call {
-        names::COMMENT => Heard::Comment,
         names::FRESH | names::UNDO_LAST | names::NEXT => fits(line, b""),
-        names::SYNC | names::PROPOSE | names::HELP => fits(line, b""),
+        names::SYNC | names::PROPOSE => fits(line, b""),
+        names::HELP | names::QUIT => fits(line, b""),
         names::UNDO_UNTIL | names::CLAUSE_OF | names::VALUE_OF => fits(line, b"n"),
-        names::LEVEL_OF | names::HOT | names::MODE => fits(line, b"n"),
-        names::VS | names::ACTIVITY => fits(line, b"nn"),
+        names::LEVEL_OF | names::HOT => fits(line, b"n"),
+        names::MODE => fits(line, b"m"),
+        names::VS => fits(line, b"nn"),
+        names::ACTIVITY => fits(line, b"na"),
         names::LOOKUP => fits(line, b"kn"),
-        names::ASSIGN => fits(line, b"nnnn"),
+        names::ASSIGN => fits(line, b"nvnn"),
         names::NODE => fits(line, b"nonn"),
         names::REGISTER => fits(line, b"nkncn"),
+        names::NAME => fits(line, b"tnw"),
         _ => hear_long(line, call),
     }
 }

@@ -1,4 +1,6 @@
-// The script language's lines: their words as codes, the forms that a call's words take, lists of numbers, and what is written in answer.
+// The script language's lines: their words as codes, the forms that a call's words take and what is said of them, lists of numbers, and what
+// is written in answer.
+pub mod expected;
 pub mod forms;
 pub mod lines;
 pub mod lists;

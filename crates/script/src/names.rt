@@ -1,4 +1,5 @@
-// The words that are no numbers. Each has a code above every u32, and calls of one kind stand together.
+// The words that are no numbers. Each has a code above every u32, and calls of one kind stand together, in the order in which `help`
+// lists them.
 use store::limits;
 
 // The code of the first of them.
@@ -7,78 +8,94 @@ pub const FIRST: u64 = limits::LAST_WORD as u64 + 1;
 // Any other word.
 pub const UNKNOWN: u64 = FIRST;
 
-// A word that begins like a number and is no u32.
-pub const NO_NUMBER: u64 = FIRST + 1;
+// A word that begins like a number and is neither a u32 nor a decimal fraction.
+pub const NO_NUMBER: u64 = UNKNOWN + 1;
 
 // A word that begins with #.
-pub const COMMENT: u64 = FIRST + 2;
+pub const COMMENT: u64 = NO_NUMBER + 1;
 
-pub const SEMICOLON: u64 = FIRST + 3;
+pub const SEMICOLON: u64 = COMMENT + 1;
 
-pub const DASH: u64 = FIRST + 4;
+pub const DASH: u64 = SEMICOLON + 1;
 
-pub const NONE: u64 = FIRST + 5;
+pub const NONE: u64 = DASH + 1;
 
-pub const SINGLE: u64 = FIRST + 6;
+pub const SINGLE: u64 = NONE + 1;
 
-pub const UNION_KIND: u64 = FIRST + 7;
+pub const UNION_KIND: u64 = SINGLE + 1;
 
-pub const LEAF: u64 = FIRST + 8;
+pub const LEAF: u64 = UNION_KIND + 1;
 
-pub const AND: u64 = FIRST + 9;
+pub const AND: u64 = LEAF + 1;
 
-pub const OR: u64 = FIRST + 10;
+pub const OR: u64 = AND + 1;
 
-pub const FRESH: u64 = FIRST + 11;
+// What may be given a name, as a union may.
+pub const VARIABLE: u64 = OR + 1;
 
-pub const VS: u64 = FIRST + 12;
+pub const PACK: u64 = VARIABLE + 1;
 
-pub const UNION: u64 = FIRST + 13;
+pub const SET: u64 = PACK + 1;
 
-pub const CAND: u64 = FIRST + 14;
+pub const CLAUSE: u64 = SET + 1;
 
-pub const LOOKUP: u64 = FIRST + 15;
+pub const FRESH: u64 = CLAUSE + 1;
 
-pub const DISJ: u64 = FIRST + 16;
+pub const VS: u64 = FRESH + 1;
 
-pub const NODE: u64 = FIRST + 17;
+pub const UNION: u64 = VS + 1;
 
-pub const REGISTER: u64 = FIRST + 18;
+pub const CAND: u64 = UNION + 1;
 
-pub const HOT: u64 = FIRST + 19;
+pub const LOOKUP: u64 = CAND + 1;
 
-pub const ACTIVITY: u64 = FIRST + 20;
+pub const DISJ: u64 = LOOKUP + 1;
 
-pub const MODE: u64 = FIRST + 21;
+pub const NODE: u64 = DISJ + 1;
 
-pub const ASSIGN: u64 = FIRST + 22;
+pub const DNF: u64 = NODE + 1;
 
-pub const UNDO_LAST: u64 = FIRST + 23;
+pub const ASSIGN: u64 = DNF + 1;
 
-pub const UNDO_UNTIL: u64 = FIRST + 24;
+pub const UNDO_LAST: u64 = ASSIGN + 1;
 
-pub const NEXT: u64 = FIRST + 25;
+pub const UNDO_UNTIL: u64 = UNDO_LAST + 1;
 
-pub const CLAUSE_OF: u64 = FIRST + 26;
+pub const NEXT: u64 = UNDO_UNTIL + 1;
 
-pub const VALUE_OF: u64 = FIRST + 27;
+pub const CLAUSE_OF: u64 = NEXT + 1;
 
-pub const LEVEL_OF: u64 = FIRST + 28;
+pub const VALUE_OF: u64 = CLAUSE_OF + 1;
 
-pub const TRAIL: u64 = FIRST + 29;
+pub const LEVEL_OF: u64 = VALUE_OF + 1;
 
-pub const SYNC: u64 = FIRST + 30;
+pub const TRAIL: u64 = LEVEL_OF + 1;
 
-pub const PROPOSE: u64 = FIRST + 31;
+pub const REGISTER: u64 = TRAIL + 1;
 
-pub const DNF: u64 = FIRST + 32;
+pub const HOT: u64 = REGISTER + 1;
 
-pub const HOLDS: u64 = FIRST + 33;
+pub const ACTIVITY: u64 = HOT + 1;
 
-pub const HELP: u64 = FIRST + 34;
+pub const MODE: u64 = ACTIVITY + 1;
+
+pub const SYNC: u64 = MODE + 1;
+
+pub const PROPOSE: u64 = SYNC + 1;
+
+pub const HOLDS: u64 = PROPOSE + 1;
+
+pub const HELP: u64 = HOLDS + 1;
+
+pub const NAME: u64 = HELP + 1;
+
+pub const QUIT: u64 = NAME + 1;
+
+// A decimal fraction, whose digits are a number n with so many places behind the point, is n + places * FIRST behind this code.
+pub const FRACTIONS: u64 = 2 * FIRST;
 
 // Whether two words have the same bytes.
-fn same(a: &[u8], b: &[u8]) -> bool {
+pub fn same(a: &[u8], b: &[u8]) -> bool {
     if a.len() != b.len() {
         return false;
     }
@@ -202,8 +219,31 @@ fn other_code(word: &[u8]) -> u64 {
     if same(word, b"holds") {
         return HOLDS;
     }
+    people_code(word)
+}
+
+// What is for people: calls, and what a name is given to.
+fn people_code(word: &[u8]) -> u64 {
     if same(word, b"help") {
         return HELP;
+    }
+    if same(word, b"name") {
+        return NAME;
+    }
+    if same(word, b"quit") {
+        return QUIT;
+    }
+    if same(word, b"variable") {
+        return VARIABLE;
+    }
+    if same(word, b"pack") {
+        return PACK;
+    }
+    if same(word, b"set") {
+        return SET;
+    }
+    if same(word, b"clause") {
+        return CLAUSE;
     }
     UNKNOWN
 }

@@ -13,7 +13,7 @@ use trail::Undone;
 use trail::Until;
 use trail::Valued;
 
-fn say_assigned(answer: Assigned) {
+fn say_assigned(answer: Assigned) -> bool {
     match answer {
         Assigned::New => say::text(b"new\n"),
         Assigned::Already => say::text(b"already\n"),
@@ -21,53 +21,48 @@ fn say_assigned(answer: Assigned) {
     }
 }
 
-fn assign(s: &mut [u32; WORD_ROOM], line: &[u64]) {
+fn assign(s: &mut [u32; WORD_ROOM], line: &[u64]) -> bool {
     say_assigned(trail::assign(
         s,
         words::number(line, 1),
         words::number(line, 2),
         words::number(line, 3),
         words::number(line, 4),
-    ));
+    ))
 }
 
-fn say_decision(name: &[u8], decision: Decision) {
-    say::text(name);
-    say::word(decision.variable);
-    say::word(decision.value);
-    say::word(decision.clause);
+fn say_decision(name: &[u8], decision: Decision) -> bool {
+    say::text(name)
+        && say::word(decision.variable)
+        && say::word(decision.value)
+        && say::word(decision.clause)
 }
 
-fn say_undone(answer: Undone) {
+fn say_undone(answer: Undone) -> bool {
     match answer {
         Undone::Popped(decision, level) => {
-            say_decision(b"popped", decision);
-            say::word(level);
-            say::line_end();
+            say_decision(b"popped", decision) && say::word(level) && say::line_end()
         }
         Undone::Refused(n) => say::refused(n),
     }
 }
 
-fn say_until(answer: Until) {
+fn say_until(answer: Until) -> bool {
     match answer {
         Until::Done => say::ok(),
         Until::Refused(n) => say::refused(n),
     }
 }
 
-fn say_next(answer: Next) {
+fn say_next(answer: Next) -> bool {
     match answer {
-        Next::Entry(decision) => {
-            say_decision(b"next", decision);
-            say::line_end();
-        }
+        Next::Entry(decision) => say_decision(b"next", decision) && say::line_end(),
         Next::Nothing => say::none(),
         Next::Refused(n) => say::refused(n),
     }
 }
 
-fn say_cause(answer: Cause) {
+fn say_cause(answer: Cause) -> bool {
     match answer {
         Cause::Clause(clause) => say::named(b"clause", clause),
         Cause::Nothing => say::none(),
@@ -75,7 +70,7 @@ fn say_cause(answer: Cause) {
     }
 }
 
-fn say_value(answer: Valued) {
+fn say_value(answer: Valued) -> bool {
     match answer {
         Valued::Decided { value, level: _ } => say::named(b"value", value),
         Valued::Undecided => say::text(b"value -\n"),
@@ -83,7 +78,7 @@ fn say_value(answer: Valued) {
     }
 }
 
-fn say_level(answer: Valued) {
+fn say_level(answer: Valued) -> bool {
     match answer {
         Valued::Decided { value: _, level } => say::named(b"level", level),
         Valued::Undecided => say::named(b"level", 0),
@@ -99,7 +94,7 @@ fn room(line: &[u64]) -> u32 {
     limits::TRAIL_ROOM as u32
 }
 
-pub fn make(s: &mut [u32; WORD_ROOM], line: &[u64], call: u64) {
+pub fn make(s: &mut [u32; WORD_ROOM], line: &[u64], call: u64) -> bool {
     let first = words::number(line, 1);
     match call {
         names::ASSIGN => assign(s, line),

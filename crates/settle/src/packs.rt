@@ -10,25 +10,25 @@ use store::limits;
 use store::limits::WORD_ROOM;
 use tables::Loaded;
 
-fn say_loaded(answer: Loaded) {
+fn say_loaded(answer: Loaded) -> bool {
     match answer {
         Loaded::Done => say::ok(),
         Loaded::Refused(n) => say::refused(n),
     }
 }
 
-fn say_candidates(answer: requirement::Loaded) {
+fn say_candidates(answer: requirement::Loaded) -> bool {
     match answer {
         requirement::Loaded::Done => say::ok(),
         requirement::Loaded::Refused(n) => say::refused(n),
     }
 }
 
-fn load_version_set(s: &mut [u32; WORD_ROOM], line: &[u64]) {
-    say_loaded(tables::load_version_set(s, words::number(line, 1), words::number(line, 2)));
+fn load_version_set(s: &mut [u32; WORD_ROOM], line: &[u64]) -> bool {
+    say_loaded(tables::load_version_set(s, words::number(line, 1), words::number(line, 2)))
 }
 
-fn load_union(s: &mut [u32; WORD_ROOM], line: &[u64]) {
+fn load_union(s: &mut [u32; WORD_ROOM], line: &[u64]) -> bool {
     let mut lengths = [0u32; MOST_WORDS];
     let mut members = [0u32; MOST_WORDS];
     let taken = lists::collect(line, 2, &mut lengths, &mut members);
@@ -36,10 +36,10 @@ fn load_union(s: &mut [u32; WORD_ROOM], line: &[u64]) {
         s,
         words::number(line, 1),
         parts::first_of(&members, taken.cells),
-    ));
+    ))
 }
 
-fn load_candidates(s: &mut [u32; WORD_ROOM], line: &[u64]) {
+fn load_candidates(s: &mut [u32; WORD_ROOM], line: &[u64]) -> bool {
     let mut lengths = [0u32; MOST_WORDS];
     let mut cells = [0u32; MOST_WORDS];
     let taken = lists::collect(line, 3, &mut lengths, &mut cells);
@@ -49,20 +49,19 @@ fn load_candidates(s: &mut [u32; WORD_ROOM], line: &[u64]) {
         words::number(line, 2),
         parts::first_of(&lengths, taken.lists),
         parts::first_of(&cells, taken.cells),
-    ));
+    ))
 }
 
-fn say_copied(answer: Copied, lengths: &[u32], cells: &[u32]) {
+fn say_copied(answer: Copied, lengths: &[u32], cells: &[u32]) -> bool {
     match answer {
         Copied::Done { lists, cells: _ } => {
-            say::text(b"cells");
-            say::lists(parts::first(lengths, store::wide(lists)), cells);
+            say::text(b"cells") && say::lists(parts::first(lengths, store::wide(lists)), cells)
         }
         Copied::Refused(n) => say::refused(n),
     }
 }
 
-fn look_up(s: &[u32; WORD_ROOM], line: &[u64]) {
+fn look_up(s: &[u32; WORD_ROOM], line: &[u64]) -> bool {
     let mut lengths = [0u32; limits::UNION_ROOM];
     let mut cells = [0u32; limits::CELL_ROOM];
     let answer = requirement::copy_candidates(
@@ -72,7 +71,7 @@ fn look_up(s: &[u32; WORD_ROOM], line: &[u64]) {
         &mut lengths,
         &mut cells,
     );
-    say_copied(answer, &lengths, &cells);
+    say_copied(answer, &lengths, &cells)
 }
 
 // Takes the literal of words i and i + 1 behind the n taken before.
@@ -106,7 +105,7 @@ fn take_literals(
     n
 }
 
-fn load_disjunction(s: &mut [u32; WORD_ROOM], line: &[u64]) {
+fn load_disjunction(s: &mut [u32; WORD_ROOM], line: &[u64]) -> bool {
     let mut variables = [0u32; MOST_WORDS];
     let mut signs = [0u32; MOST_WORDS];
     let n = take_literals(line, &mut variables, &mut signs);
@@ -115,20 +114,20 @@ fn load_disjunction(s: &mut [u32; WORD_ROOM], line: &[u64]) {
         words::number(line, 1),
         parts::first_of(&variables, n),
         parts::first_of(&signs, n),
-    ));
+    ))
 }
 
-fn load_node(s: &mut [u32; WORD_ROOM], line: &[u64]) {
+fn load_node(s: &mut [u32; WORD_ROOM], line: &[u64]) -> bool {
     say_loaded(tables::load_condition(
         s,
         words::number(line, 1),
         words::node_kind(line, 2),
         words::number(line, 3),
         words::number(line, 4),
-    ));
+    ))
 }
 
-pub fn make(s: &mut [u32; WORD_ROOM], line: &[u64], call: u64) {
+pub fn make(s: &mut [u32; WORD_ROOM], line: &[u64], call: u64) -> bool {
     match call {
         names::VS => load_version_set(s, line),
         names::UNION => load_union(s, line),

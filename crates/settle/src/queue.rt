@@ -7,7 +7,7 @@ use rules::activity::Admitted;
 use store::limits::WORD_ROOM;
 use sync::Synced;
 
-fn say_synced(answer: Synced) {
+fn say_synced(answer: Synced) -> bool {
     match answer {
         Synced::Touches(n) => say::named(b"touches", n),
         Synced::Refused(n) => say::refused(n),
@@ -22,7 +22,7 @@ fn bits_of(x: f32) -> u32 {
     }
 }
 
-fn say_proposal(answer: Proposal) {
+fn say_proposal(answer: Proposal) -> bool {
     match answer {
         Proposal::Choose {
             candidate,
@@ -32,27 +32,24 @@ fn say_proposal(answer: Proposal) {
             count,
             dropped,
         } => {
-            say::text(b"choose");
-            say::word(candidate);
-            say::word(parent);
-            say::word(clause);
-            say::word(bits_of(activity));
-            say::word(count);
-            say::word(dropped);
-            say::line_end();
+            say::text(b"choose")
+                && say::word(candidate)
+                && say::word(parent)
+                && say::word(clause)
+                && say::word(bits_of(activity))
+                && say::word(count)
+                && say::word(dropped)
+                && say::line_end()
         }
         Proposal::Nothing { dropped } => say::named(b"nothing", dropped),
         Proposal::Dead { clause, dropped } => {
-            say::text(b"refused 8");
-            say::word(clause);
-            say::word(dropped);
-            say::line_end();
+            say::text(b"refused 8") && say::word(clause) && say::word(dropped) && say::line_end()
         }
         Proposal::Refused(n) => say::refused(n),
     }
 }
 
-pub fn make(s: &mut [u32; WORD_ROOM], call: u64) {
+pub fn make(s: &mut [u32; WORD_ROOM], call: u64) -> bool {
     match call {
         names::SYNC => say_synced(sync::sync(s)),
         _ => say_proposal(proposal::propose(s)),

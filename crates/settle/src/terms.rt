@@ -18,11 +18,10 @@ const TERMS: usize = limits::MOST_TERMS;
 // The most version sets that they have together.
 const SETS: usize = TERMS * limits::MOST_SETS;
 
-fn say_rewritten(answer: Rewritten, lengths: &[u32; TERMS], cells: &[u32; SETS]) {
+fn say_rewritten(answer: Rewritten, lengths: &[u32; TERMS], cells: &[u32; SETS]) -> bool {
     match answer {
         Rewritten::Terms { terms, cells: _ } => {
-            say::text(b"dnf");
-            say::lists(parts::first(lengths, store::wide(terms)), cells);
+            say::text(b"dnf") && say::lists(parts::first(lengths, store::wide(terms)), cells)
         }
         Rewritten::Refused(n) => say::refused(n),
     }
@@ -42,7 +41,7 @@ fn room(line: &[u64], i: usize, most: usize) -> usize
 }
 
 // Lends room for so many terms and version sets as the line says, or for all that there can be.
-fn dnf(s: &[u32; WORD_ROOM], line: &[u64]) {
+fn dnf(s: &[u32; WORD_ROOM], line: &[u64]) -> bool {
     let mut lengths = [0u32; TERMS];
     let mut cells = [0u32; SETS];
     let terms = room(line, 2, TERMS);
@@ -53,10 +52,10 @@ fn dnf(s: &[u32; WORD_ROOM], line: &[u64]) {
         &mut lengths[0..terms],
         &mut cells[0..sets],
     );
-    say_rewritten(answer, &lengths, &cells);
+    say_rewritten(answer, &lengths, &cells)
 }
 
-fn say_holds(answer: Holds) {
+fn say_holds(answer: Holds) -> bool {
     match answer {
         Holds::Yes => say::text(b"holds 1\n"),
         Holds::No => say::text(b"holds 0\n"),
@@ -109,7 +108,7 @@ fn collect(line: &[u64], lengths: &mut [u32; MOST_WORDS], cells: &mut [u32; MOST
     lists::collect(line, 1, lengths, cells)
 }
 
-fn holds(s: &[u32; WORD_ROOM], line: &[u64]) {
+fn holds(s: &[u32; WORD_ROOM], line: &[u64]) -> bool {
     let mut kinds = [0u32; MOST_WORDS];
     let mut starts = [0u32; MOST_WORDS];
     let mut lengths = [0u32; MOST_WORDS];
@@ -123,10 +122,10 @@ fn holds(s: &[u32; WORD_ROOM], line: &[u64]) {
         parts::first_of(&starts, count),
         parts::first_of(&lengths, count),
         parts::first_of(&cells, taken.cells),
-    ));
+    ))
 }
 
-pub fn make(s: &[u32; WORD_ROOM], line: &[u64], call: u64) {
+pub fn make(s: &[u32; WORD_ROOM], line: &[u64], call: u64) -> bool {
     match call {
         names::DNF => dnf(s, line),
         _ => holds(s, line),

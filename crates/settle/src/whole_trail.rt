@@ -6,35 +6,35 @@ use store::read;
 use trail::Length;
 
 // Entry i: its variable, its value and its clause.
-fn say_entry(s: &[u32; WORD_ROOM], i: usize) {
-    if 0 < i {
-        say::text(b" ;");
-    }
+fn say_entry(s: &[u32; WORD_ROOM], i: usize) -> bool {
     if i < limits::TRAIL_ROOM {
-        say::word(read::trail_variable(s, i));
-        say::word(read::trail_value(s, i));
-        say::word(read::trail_clause(s, i));
+        return say::between(i)
+            && say::word(read::trail_variable(s, i))
+            && say::word(read::trail_value(s, i))
+            && say::word(read::trail_clause(s, i));
     }
+    true
 }
 
-fn say_entries(s: &[u32; WORD_ROOM], n: usize) {
-    say::text(b"trail");
+fn say_entries(s: &[u32; WORD_ROOM], n: usize) -> bool {
     let mut i: usize = 0;
     while i < n {
-        say_entry(s, i);
+        if !say_entry(s, i) {
+            return false;
+        }
         i += 1;
     }
-    say::line_end();
+    say::line_end()
 }
 
 // Says the trail to a list with room for so many entries: too little is refused with 3.
-pub fn say_trail(s: &[u32; WORD_ROOM], room: u32) {
+pub fn say_trail(s: &[u32; WORD_ROOM], room: u32) -> bool {
     match trail::trail_length(s) {
         Length::Entries(n) => {
             if room < n {
-                say::refused(3);
+                say::refused(3)
             } else {
-                say_entries(s, store::wide(n));
+                say::text(b"trail") && say_entries(s, store::wide(n))
             }
         }
         Length::Refused(n) => say::refused(n),

@@ -8,9 +8,6 @@ Inv-loop s₀ bytes₀ line₀ turns₀ s bytes line turns = Unit {0}
 abbrev μ-loop : tie.MeasureT-loop
 μ-loop s₀ bytes₀ line₀ turns₀ s bytes line turns = turns
 
-first-requires : tie.Need-first-requires Inv-loop μ-loop
-first-requires c κs = search needs
-
 loop-holds : tie.Need-loop-holds Inv-loop μ-loop
 loop-holds c = search needs
 
@@ -38,7 +35,6 @@ read-all-spec =
     (tie.spec
     Inv-loop
     μ-loop
-    first-requires
     loop-holds
     read-some-requires
     sub-turns

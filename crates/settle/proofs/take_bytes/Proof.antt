@@ -31,6 +31,9 @@ loop-again c = search needs
 returns : tie.Need-returns Inv-loop μ-loop
 returns c = search needs
 
+returns-2 : tie.Need-returns-2 Inv-loop μ-loop
+returns-2 c = search needs
+
 pub take-bytes-spec : {M : Type 1} → statement M
 take-bytes-spec =
     tie.close
@@ -43,4 +46,5 @@ take-bytes-spec =
     add-i
     loop-less
     loop-again
-    returns)
+    returns
+    returns-2)

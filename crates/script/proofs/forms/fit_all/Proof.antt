@@ -13,23 +13,20 @@ abbrev μ-loop : tie.MeasureT-loop
 loop-holds : tie.Need-loop-holds Inv-loop μ-loop
 loop-holds c = search needs
 
-mul-fit : tie.Need-mul-fit Inv-loop μ-loop
-mul-fit c = search needs
-
-shared-slice-read-fit : tie.Need-shared-slice-read-fit Inv-loop μ-loop
-shared-slice-read-fit c = search needs
-
 sub-letter : tie.Need-sub-letter Inv-loop μ-loop
 sub-letter c = search needs
 
 letter-requires : tie.Need-letter-requires Inv-loop μ-loop
 letter-requires c κs = search needs
 
+mul-fit : tie.Need-mul-fit Inv-loop μ-loop
+mul-fit c = search needs
+
+shared-slice-read-fit : tie.Need-shared-slice-read-fit Inv-loop μ-loop
+shared-slice-read-fit c = search needs
+
 fit-requires : tie.Need-fit-requires Inv-loop μ-loop
 fit-requires c κs = search needs
-
-enum-told : tie.Need-enum-told Inv-loop μ-loop
-enum-told c = search needs
 
 returns : tie.Need-returns Inv-loop μ-loop
 returns c = search needs
@@ -53,12 +50,11 @@ fit-all-spec =
     Inv-loop
     μ-loop
     loop-holds
-    mul-fit
-    shared-slice-read-fit
     sub-letter
     letter-requires
+    mul-fit
+    shared-slice-read-fit
     fit-requires
-    enum-told
     returns
     add-i
     loop-less

@@ -13,8 +13,17 @@ abbrev μ-loop : tie.MeasureT-loop
 loop-holds : tie.Need-loop-holds Inv-loop μ-loop
 loop-holds c = search needs
 
+length-requires : tie.Need-length-requires Inv-loop μ-loop
+length-requires c κs = search needs
+
 list-requires : tie.Need-list-requires Inv-loop μ-loop
 list-requires c κs = search needs
+
+returns : tie.Need-returns Inv-loop μ-loop
+returns c = search needs
+
+wrapping-add-usize-requires : tie.Need-wrapping-add-usize-requires Inv-loop μ-loop
+wrapping-add-usize-requires c κs = search needs
 
 add-j : tie.Need-add-j Inv-loop μ-loop
 add-j c = search needs
@@ -28,8 +37,8 @@ loop-again c = search needs
 line-end-requires : tie.Need-line-end-requires Inv-loop μ-loop
 line-end-requires c κs = search needs
 
-returns : tie.Need-returns Inv-loop μ-loop
-returns c = search needs
+returns-2 : tie.Need-returns-2 Inv-loop μ-loop
+returns-2 c = search needs
 
 pub lists-spec : {M : Type 1} → statement M
 lists-spec =
@@ -38,9 +47,12 @@ lists-spec =
     Inv-loop
     μ-loop
     loop-holds
+    length-requires
     list-requires
+    returns
+    wrapping-add-usize-requires
     add-j
     loop-less
     loop-again
     line-end-requires
-    returns)
+    returns-2)

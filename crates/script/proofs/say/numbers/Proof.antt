@@ -22,6 +22,9 @@ shared-slice-read-word c = search needs
 word-requires : tie.Need-word-requires Inv-loop μ-loop
 word-requires c κs = search needs
 
+returns : tie.Need-returns Inv-loop μ-loop
+returns c = search needs
+
 add-i : tie.Need-add-i Inv-loop μ-loop
 add-i c = search needs
 
@@ -31,8 +34,8 @@ loop-less c = search needs
 loop-again : tie.Need-loop-again Inv-loop μ-loop
 loop-again c = search needs
 
-returns : tie.Need-returns Inv-loop μ-loop
-returns c = search needs
+returns-2 : tie.Need-returns-2 Inv-loop μ-loop
+returns-2 c = search needs
 
 pub numbers-spec : {M : Type 1} → statement M
 numbers-spec =
@@ -44,7 +47,8 @@ numbers-spec =
     mul-word
     shared-slice-read-word
     word-requires
+    returns
     add-i
     loop-less
     loop-again
-    returns)
+    returns-2)

@@ -1,14 +1,21 @@
 //! Calls every entry point on any bytes: random words, damaged stores, short slices, wild arguments, NULL for empty lists. Each call
 //! must answer, and a refusal other than 8 must leave every word and every lent output as it was.
-//!
-//!     hostile [CALLS]      so many calls (default 10,000,000)
 
-use imbolaverk::generate::{script, Dice, PROFILES};
 use imbolaverk::raw::{self, Decision};
-use imbolaverk::script::Call;
 use imbolaverk::Store;
+use imbolaverk_runs::generate::{script, Dice, PROFILES};
+use imbolaverk_runs::script::Call;
 use std::sync::atomic::{AtomicU64, Ordering};
 use std::time::{Duration, Instant};
+
+const USAGE: &str = "\
+usage: hostile [CALLS]
+
+Makes CALLS calls (10000000 if left out) with any arguments on any words. Stops where a call gives no answer for 30 seconds, or a refusal
+changes something.
+
+  --help, -h  this text
+  --version   the version";
 
 static MADE: AtomicU64 = AtomicU64::new(0);
 
@@ -22,7 +29,7 @@ const GUARD: usize = 64;
 const ENOUGH: u64 = 400_000;
 
 fn main() {
-    let wanted: u64 = std::env::args().nth(1).map_or(10_000_000, |word| word.parse().expect("CALLS is a number"));
+    let wanted = imbolaverk_runs::numbers(USAGE, 1).first().copied().unwrap_or(10_000_000);
     let mut dice = Dice::new(20);
     let mut answers = [0u64; 13];
     let mut words = vec![0u32; Store::size() + GUARD];

@@ -1,15 +1,22 @@
 //! Times the same scripts on the original and on the library, turn by turn, and prints nanoseconds a call with their ratios: of the
 //! public calls, which check the shape of all words first, and of the inner calls, which are the same without the check.
-//!
-//!     bench [TURNS [REPEATS]]      so many turns of each (default 7) over so many runs of a script (default 40); medians are printed
 
-use imbolaverk::generate::solving;
-use imbolaverk::original::{run, takes};
-use imbolaverk::script::Call;
 use imbolaverk::Store;
+use imbolaverk_runs::generate::solving;
+use imbolaverk_runs::original::{run, takes};
+use imbolaverk_runs::script::Call;
 use std::collections::BTreeMap;
 use std::hint::black_box;
 use std::time::Instant;
+
+const USAGE: &str = "\
+usage: bench [TURNS [REPEATS]]
+
+Times the original, which host/original.sh builds, and the library, TURNS times each (7 if left out) over REPEATS runs of a script (40),
+and prints the medians.
+
+  --help, -h  this text
+  --version   the version";
 
 /// The inner calls, of `libinner.a`: nothing tests their precondition, a store of sound shape, so they are for this program alone.
 mod inner {
@@ -43,9 +50,9 @@ const CHECKS: u32 = 10_000;
 type Times = BTreeMap<String, f64>;
 
 fn main() {
-    let mut words = std::env::args().skip(1).map(|word| word.parse().expect("TURNS and REPEATS are numbers"));
-    let turns: u32 = words.next().unwrap_or(7);
-    let repeats: u32 = words.next().unwrap_or(40);
+    let asked = imbolaverk_runs::numbers(USAGE, 2);
+    let turns = asked.first().copied().unwrap_or(7);
+    let repeats = asked.get(1).copied().unwrap_or(40);
     for (clauses, standard) in [(64, true), (512, true), (512, false)] {
         let lines: Vec<String> =
             solving(clauses, standard).into_iter().filter(|line| takes(&line.answer)).map(|line| line.call).collect();
@@ -86,7 +93,7 @@ fn median(mut all: Vec<f64>) -> f64 {
 }
 
 /// The original's own timing of a script, by kind of call.
-fn original_times(text: &str, repeats: u32) -> Times {
+fn original_times(text: &str, repeats: u64) -> Times {
     let said = run(&["bench", &repeats.to_string()], text)
         .unwrap_or_else(|error| panic!("the original does not run ({error}); host/original.sh builds it"));
     said.lines()
@@ -110,7 +117,7 @@ fn named(kind: &str) -> &str {
 }
 
 /// The same timing of the library: each call between two looks at the clock, less what the looks cost.
-fn library_times(calls: &[Call], repeats: u32, make: impl Fn(&Call, &mut Store)) -> Times {
+fn library_times(calls: &[Call], repeats: u64, make: impl Fn(&Call, &mut Store)) -> Times {
     let cost = (0..1000).map(|_| Instant::now().elapsed().as_nanos()).min().unwrap_or(0);
     let mut store = Store::new();
     let mut sums: BTreeMap<&str, (u128, u64)> = BTreeMap::new();

@@ -1,13 +1,20 @@
 //! Runs random and all short scripts through the library and through the original, and compares every answer.
-//!
-//!     compare [CALLS]      about so many calls (default 10,000,000); stops at the first difference, shrunk
 
-use imbolaverk::generate::{script, Line, PROFILES};
-use imbolaverk::original::{agrees, run, takes};
-use imbolaverk::script::Call;
 use imbolaverk::Store;
+use imbolaverk_runs::generate::{script, Line, PROFILES};
+use imbolaverk_runs::original::{agrees, run, takes};
+use imbolaverk_runs::script::Call;
 use std::collections::BTreeMap;
 use std::time::Instant;
+
+const USAGE: &str = "\
+usage: compare [CALLS]
+
+Makes about CALLS random calls (10000000 if left out), and all short scripts, on the library and on the original, which host/original.sh
+builds, and compares every answer. Stops at the first difference, with the smallest script that shows it.
+
+  --help, -h  this text
+  --version   the version";
 
 /// Calls sent to the original in one go.
 const BATCH: usize = 200_000;
@@ -24,7 +31,7 @@ struct Tally {
 }
 
 fn main() {
-    let wanted: u64 = std::env::args().nth(1).map_or(10_000_000, |word| word.parse().expect("CALLS is a number"));
+    let wanted = imbolaverk_runs::numbers(USAGE, 1).first().copied().unwrap_or(10_000_000);
     let began = Instant::now();
     let mut tally = Tally::default();
     short_scripts(wanted / 10, &mut tally);

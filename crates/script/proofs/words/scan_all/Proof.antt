@@ -1,8 +1,8 @@
 use borrow.Author.Needs.{needs}
 use Prim.Native.Nat.{_-_}
 use lib.ListN.{length}
-use Rattle.script.proofs.words.scan.Statement.{statement}
-use Rattle.script.proofs.words.scan.Tie as tie
+use Rattle.script.proofs.words.scan_all.Statement.{statement}
+use Rattle.script.proofs.words.scan_all.Tie as tie
 
 abbrev Inv-loop : tie.InvT-loop
 Inv-loop bytes line₀ count₀ start₀ i₀ line count start i = Unit {0}
@@ -40,8 +40,8 @@ take-requires-2 c κs = search needs
 returns : tie.Need-returns Inv-loop μ-loop
 returns c = search needs
 
-pub scan-spec : {M : Type 1} → statement M
-scan-spec =
+pub scan-all-spec : {M : Type 1} → statement M
+scan-all-spec =
     tie.close
     (tie.spec
     Inv-loop

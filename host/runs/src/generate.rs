@@ -1,7 +1,7 @@
 //! Random scripts. A script is made by running the library along, so that it can lean towards calls that do something.
 
 use crate::script::Call;
-use crate::Store;
+use imbolaverk::Store;
 
 /// A small generator of random numbers (splitmix64).
 #[derive(Clone)]

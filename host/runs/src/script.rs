@@ -1,6 +1,8 @@
 //! The script language: one call a line, one answer line a call. The original's driver and the program `settle` read it too.
 
-use crate::{Assigned, Condition, Conjunct, Node, Refusal, Requirement, Store, TERMS, TERM_CELLS, TRAIL_ENTRIES};
+use imbolaverk::{
+    Assigned, Condition, Conjunct, Decision, Mode, Node, Refusal, Requirement, Store, TERMS, TERM_CELLS, TRAIL_ENTRIES,
+};
 use std::fmt::Write;
 
 /// One call of a script, with the arguments of the [`Store`]'s method that it makes.
@@ -17,7 +19,7 @@ pub enum Call {
     Register { parent: u32, requirement: Requirement, condition: Condition, clause: u32 },
     Hot(u32),
     Activity { name: u32, bits: u32 },
-    Mode(bool),
+    Mode(Mode),
     Assign { variable: u32, value: bool, level: u32, clause: u32 },
     UndoLast,
     UndoUntil(u32),
@@ -103,7 +105,7 @@ impl Call {
             },
             ("hot", [name]) => Call::Hot(number(name)?),
             ("activity", [name, bits]) => Call::Activity { name: number(name)?, bits: number(bits)? },
-            ("mode", [mode]) => Call::Mode(flag(mode)?),
+            ("mode", [mode]) => Call::Mode(if flag(mode)? { Mode::Standard } else { Mode::AllClauses }),
             ("assign", [variable, value, level, clause]) => {
                 Call::Assign { variable: number(variable)?, value: flag(value)?, level: number(level)?, clause: number(clause)? }
             }
@@ -191,19 +193,18 @@ impl Call {
             }
             Call::Hot(name) => store.mark_hot(*name).map(ok),
             Call::Activity { name, bits } => store.set_activity(*name, f32::from_bits(*bits)).map(ok),
-            Call::Mode(standard) => store.set_mode(*standard).map(ok),
+            Call::Mode(mode) => store.set_mode(*mode).map(ok),
             Call::Assign { variable, value, level, clause } => {
                 let assigned = store.assign(*variable, *value, *level, *clause)?;
                 Ok(if assigned == Assigned::New { "new" } else { "already" }.to_string())
             }
             Call::UndoLast => {
                 let popped = store.undo_last()?;
-                let d = popped.decision;
-                Ok(format!("popped {} {} {} {}", d.variable, d.value, d.clause, popped.level))
+                Ok(format!("popped {} {}", entry(&popped.decision), popped.level))
             }
             Call::UndoUntil(level) => store.undo_until(*level).map(ok),
             Call::Next => Ok(match store.next_unpropagated()? {
-                Some(d) => format!("next {} {} {}", d.variable, d.value, d.clause),
+                Some(decision) => format!("next {}", entry(&decision)),
                 None => "none".to_string(),
             }),
             Call::ClauseOf(variable) => Ok(match store.clause_of(*variable)? {
@@ -216,8 +217,8 @@ impl Call {
             }),
             Call::LevelOf(variable) => Ok(format!("level {}", store.value_of(*variable)?.map_or(0, |held| held.1))),
             Call::Trail { room } => {
-                let entries: Vec<Vec<u32>> = store.trail_in(*room)?.iter().map(|d| vec![d.variable, d.value, d.clause]).collect();
-                Ok(joined("trail", &entries))
+                let entries: Vec<String> = store.trail_in(*room)?.iter().map(entry).collect();
+                Ok(if entries.is_empty() { "trail".to_string() } else { format!("trail {}", entries.join(" ; ")) })
             }
             Call::Sync => Ok(format!("touches {}", store.sync()?)),
             Call::Propose => {
@@ -239,6 +240,11 @@ impl Call {
             Call::Holds(conjuncts) => Ok(format!("holds {}", store.disjunct_holds(conjuncts)? as u32)),
         }
     }
+}
+
+/// An entry of the trail.
+fn entry(decision: &Decision) -> String {
+    format!("{} {} {}", decision.variable, decision.value as u32, decision.clause)
 }
 
 /// A word, then lists with `;` between them.

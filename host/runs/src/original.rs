@@ -8,7 +8,7 @@ use std::process::{Command, Stdio};
 pub fn driver() -> PathBuf {
     match std::env::var("IMBOLAVERK_ORIGINAL") {
         Ok(given) => PathBuf::from(given),
-        Err(_) => PathBuf::from(env!("CARGO_MANIFEST_DIR")).join("../target/original/oracle-pure"),
+        Err(_) => PathBuf::from(env!("CARGO_MANIFEST_DIR")).join("../../build/original/oracle-pure"),
     }
 }
 
