@@ -17,7 +17,7 @@ usage: library.sh [NAME [MACHINE]]
 
 Proves a library and writes build/library/MACHINE/libNAME.a, and for the machine at hand build/library/libNAME.a as well.
 
-  NAME        imbolaverk (left out: this one), or inner, for the benchmark
+  NAME        imbolaverk (left out: this one), or unchecked, for the benchmark
   MACHINE     x86_64 or aarch64, as "uname -m" says it there (left out: the machine at hand)
   --help, -h  this text
   --version   the version
@@ -48,8 +48,8 @@ name=${1:-imbolaverk}
 machine=$(uname -m)
 wanted=${2:-$machine}
 case $name in
-imbolaverk | inner) ;;
-*) die "there is no library $name, only imbolaverk and inner" ;;
+imbolaverk | unchecked) ;;
+*) die "there is no library $name, only imbolaverk and unchecked" ;;
 esac
 # The module's lengths have 64 bits whatever it is compiled for, and those of the header are as long as a pointer.
 case $wanted in

@@ -4,7 +4,7 @@ use mathlib.Core.List.{List, [], _∷_, _++_}
 use mathlib.Core.Path.{_≡_, refl, sym, _∙_}
 use Prim.Native.Nat.{ℕ, zero, suc, _+_}
 use lib.Dec.{eqb}
-use Rattle.conditions.specs.Dnf.{behind, cross, nodeTerms, dnf, linked, terms}
+use Rattle.conditions.specs.Dnf.{prefixed, cross, nodeTerms, dnf, linked, terms}
 use Rattle.conditions.specs.Truth.{some, nodeTruth, truth, treeHolds, termsHold}
 use Rattle.rules.proofs.Choice.{or-assoc, and-none}
 use Rattle.store.specs.Area.{at}
@@ -28,10 +28,10 @@ some-append p [] r = refl
 some-append p (x ∷ l) r = rw (some-append p l r) (or-assoc (every p x) (termsHold p l) (termsHold p r))
 
 -- a term followed by some terms
-some-behind : (p : ℕ → Bool) (x : List ℕ) (r : List (List ℕ)) → termsHold p (behind x r) ≡ every p x && termsHold p r
-unfolding some behind
-some-behind p x [] = sym (and-none (every p x))
-some-behind p x (y ∷ r) = rw (some-behind p x r, every-append p x y) (go (every p x) (every p y) (termsHold p r))
+some-prefixed : (p : ℕ → Bool) (x : List ℕ) (r : List (List ℕ)) → termsHold p (prefixed x r) ≡ every p x && termsHold p r
+unfolding some prefixed
+some-prefixed p x [] = sym (and-none (every p x))
+some-prefixed p x (y ∷ r) = rw (some-prefixed p x r, every-append p x y) (go (every p x) (every p y) (termsHold p r))
   where
     go : (a b c : Bool) → (a && b) || (a && c) ≡ a && (b || c)
     go true b c = refl
@@ -40,7 +40,7 @@ some-behind p x (y ∷ r) = rw (some-behind p x r, every-append p x y) (go (ever
 some-cross : (p : ℕ → Bool) (l r : List (List ℕ)) → termsHold p (cross l r) ≡ termsHold p l && termsHold p r
 unfolding some cross
 some-cross p [] r = refl
-some-cross p (x ∷ l) r = some-append p (behind x r) (cross l r) ∙ rw (some-behind p x r, some-cross p l r) (go (every p x) (termsHold p l) (termsHold p r))
+some-cross p (x ∷ l) r = some-append p (prefixed x r) (cross l r) ∙ rw (some-prefixed p x r, some-cross p l r) (go (every p x) (termsHold p l) (termsHold p r))
   where
     go : (a b c : Bool) → (a && c) || (b && c) ≡ (a || b) && c
     go true true true = refl

@@ -10,7 +10,7 @@ use lib.Dec.{eqb}
 use lib.ListN.{length, getD, length-append, List·getD-append}
 use lib.Seq.{getD-append-add}
 use Rattle.store.specs.Limits.{mostTerms}
-use Rattle.conditions.specs.Dnf.{behind, cross, nodeTerms, dnf, linked}
+use Rattle.conditions.specs.Dnf.{prefixed, cross, nodeTerms, dnf, linked}
 use Rattle.conditions.specs.Ways.{countOf}
 use Rattle.rules.proofs.Choice.{lt-or}
 use Rattle.store.specs.Area.{at}
@@ -18,26 +18,26 @@ use Rattle.store.specs.Codes.{leafKind, andKind}
 use Rattle.store.specs.Layout.{nodeKinds, nodeSets, nodeLefts, nodeRights}
 use Rattle.store.specs.Shape.{Sound}
 
-length-behind : (x : List ℕ) (r : List (List ℕ)) → length (behind x r) ≡ length r
-unfolding behind
-length-behind x [] = refl
-length-behind x (y ∷ r) = ap suc (length-behind x r)
+length-prefixed : (x : List ℕ) (r : List (List ℕ)) → length (prefixed x r) ≡ length r
+unfolding prefixed
+length-prefixed x [] = refl
+length-prefixed x (y ∷ r) = ap suc (length-prefixed x r)
 
 pub length-cross : (l r : List (List ℕ)) → length (cross l r) ≡ length l * length r
 unfolding cross
 length-cross [] r = sym (zero-mul (length r))
 length-cross (x ∷ l) r =
-    let a = length-append (behind x r) (cross l r) in
-    let b = length-behind x r in
+    let a = length-append (prefixed x r) (cross l r) in
+    let b = length-prefixed x r in
     let d = length-cross l r in
     let e = suc-mul (length l) (length r) in
     omega arith
 
-at-behind : (x : List ℕ) (r : List (List ℕ)) (b : ℕ) → b < length r → getD (behind x r) b [] ≡ x ++ getD r b []
-unfolding behind
-at-behind x [] b h = absurd (omega arith)
-at-behind x (y ∷ r) zero h = refl
-at-behind x (y ∷ r) (suc b) h = at-behind x r b (omega arith)
+at-prefixed : (x : List ℕ) (r : List (List ℕ)) (b : ℕ) → b < length r → getD (prefixed x r) b [] ≡ x ++ getD r b []
+unfolding prefixed
+at-prefixed x [] b h = absurd (omega arith)
+at-prefixed x (y ∷ r) zero h = refl
+at-prefixed x (y ∷ r) (suc b) h = at-prefixed x r b (omega arith)
 
 -- a term of the product, by the places of its two parts
 pub at-cross : (l r : List (List ℕ)) (a b : ℕ) → a < length l → b < length r → getD (cross l r) (a * length r + b) [] ≡ getD l a [] ++ getD r b []
@@ -45,10 +45,10 @@ unfolding cross
 at-cross [] r a b h k = absurd (omega arith)
 at-cross (x ∷ l) r zero b h k =
     let e : zero * length r + b ≡ b = omega (arith, zero-mul (length r)) in
-    rw e (List·getD-append (behind x r) (cross l r) [] b (rw (length-behind x r) k) ∙ at-behind x r b k)
+    rw e (List·getD-append (prefixed x r) (cross l r) [] b (rw (length-prefixed x r) k) ∙ at-prefixed x r b k)
 at-cross (x ∷ l) r (suc a) b h k =
-    let e : suc a * length r + b ≡ length (behind x r) + (a * length r + b) = omega (arith, suc-mul a (length r), length-behind x r) in
-    rw e (getD-append-add (behind x r) (cross l r) (a * length r + b) [] ∙ at-cross l r a b (omega arith) k)
+    let e : suc a * length r + b ≡ length (prefixed x r) + (a * length r + b) = omega (arith, suc-mul a (length r), length-prefixed x r) in
+    rw e (getD-append-add (prefixed x r) (cross l r) (a * length r + b) [] ∙ at-cross l r a b (omega arith) k)
 
 -- one more than a limit stands for all that are above it
 module _ (m : ℕ) where

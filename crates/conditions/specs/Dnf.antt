@@ -8,16 +8,16 @@ use Rattle.store.specs.Area.{at}
 use Rattle.store.specs.Codes.{leafKind, andKind}
 use Rattle.store.specs.Layout.{nodeKinds, nodeSets, nodeLefts, nodeRights}
 
--- every one of some terms behind a given one
-unfoldable pub behind : List ℕ → List (List ℕ) → List (List ℕ)
-behind x [] = []
-behind x (y ∷ r) = (x ++ y) ∷ behind x r
+-- a given term followed by each of some terms
+unfoldable pub prefixed : List ℕ → List (List ℕ) → List (List ℕ)
+prefixed x [] = []
+prefixed x (y ∷ r) = (x ++ y) ∷ prefixed x r
 
 -- "for each left term in order and each right term in order, left followed by right, repeats kept"
 unfoldable pub cross : List (List ℕ) → List (List ℕ) → List (List ℕ)
-unfolding behind
+unfolding prefixed
 cross [] r = []
-cross (x ∷ l) r = behind x r ++ cross l r
+cross (x ∷ l) r = prefixed x r ++ cross l r
 
 -- "A leaf gives one term of one version set. Or joins the left terms and then the right." And gives the product; a node that is not
 -- loaded has no terms

@@ -13,9 +13,8 @@ use Rattle.imbolaverk.specs.Calls.{Call, leftBy, numberOf, run, valuesOf}
 use Rattle.promises.specs.Scripts.{Line, answers, calls, expected, p1, p2, p3, p4, p5, p6, p7, p8, p9, p10, p11, p12, scripts, start}
 use Rattle.store.specs.Layout.{words}
 use Rattle.clauses.specs.Names.{otherName, newName, nameCount, newNames, distinctNames}
-use Rattle.clauses.specs.Record.{behindLast}
 use Rattle.clauses.specs.Register.{knownCondition, conditionWord, literalCountOf, allNamed, hasRoom, queuedMark, recordIn, registered, registerTests}
-use Rattle.conditions.specs.Dnf.{behind, cross, nodeTerms, dnf, linked}
+use Rattle.conditions.specs.Dnf.{prefixed, cross, nodeTerms, dnf, linked}
 use Rattle.conditions.specs.Rewrite.{tooMuch, rewriteInLengths, rewriteInCells, rewriteTests}
 use Rattle.meaning.specs.Standing.{ofClause, cacheBy, cacheOf, markOf}
 use Rattle.meaning.specs.View.{listAt, listsAt, literalAt, literalsAt}
@@ -25,6 +24,7 @@ use Rattle.proposal.specs.Propose.{answer, proposalIn, proposalInStore, unsynce
 use Rattle.requirement.specs.Copy.{tabled}
 use Rattle.requirement.specs.Load.{adds, known, fitting, putLists, tableAt, loadedSingle, loadedUnion, loaded as tableMade, loadTests}
 use Rattle.requirement.specs.Tables.{requirementOf, firstSlot, setCount, listCount, setOf, cellsOf}
+use Rattle.rules.specs.Store.{behind}
 use Rattle.rules.specs.Queue.{examine, queuedTurn}
 use Rattle.rules.specs.Sync.{meets, mentions}
 use Rattle.rules.specs.Walk.{member, allFalse, flattened, firstThat, countUndecided, frontier, evaluate, largest, anyHot, upTo}
@@ -125,7 +125,7 @@ unfoldable onwardOf : Ran → List (List (List ℕ))
 onwardOf r = r .said ∷ eachIn (r .left) onward
 
 computed : (eachIn first alone ≡ map expected alone) × (onwardOf third ≡ map expected (p3 ∷ onward))
-unfolding otherName newName nameCount newNames distinctNames behindLast knownCondition conditionWord literalCountOf allNamed hasRoom registerTests queuedMark recordIn registered behind cross nodeTerms dnf linked lengthsOf joined tooMuch rewriteTests over rewriteInLengths rewriteInCells ofClause cacheBy cacheOf markOf assigned from listAt listsAt literalAt literalsAt cached saved findingAt filled proposalIn proposalInStore runIn stepIn answer unsynced tabled adds known fitting loadTests putLists tableAt loadedSingle loadedUnion tableMade requirementOf firstSlot setCount listCount setOf cellsOf examine queuedTurn upTo mentions meets member allFalse flattened firstThat countUndecided frontier evaluate largest anyHot good admitted activityWith quiet activityOn activityOnStore activityTests area at put putRun blank freshWords allFrom moved inserted every sweep oldEntries newEntries touchedIn touchesIn wakesAt spoilsAt wokenWords spoiledWords sweptWords copiedWords mirroredWords syncInStore loaded leafIn branchIn loadConditionTests leafed branched nodePut literalsOf loadVersionSetTests assignOn assignTests pushed cellValue cellSide cellLevel cellOf decisionAt levelAt levelOfLast entryAbove popped undoLastTests poppedTo cleared noStop undoUntilTests odd ofFields ofBits toBits size climb span onwardOf
+unfolding otherName newName nameCount newNames distinctNames knownCondition conditionWord literalCountOf allNamed hasRoom registerTests queuedMark recordIn registered behind prefixed cross nodeTerms dnf linked lengthsOf joined tooMuch rewriteTests over rewriteInLengths rewriteInCells ofClause cacheBy cacheOf markOf assigned from listAt listsAt literalAt literalsAt cached saved findingAt filled proposalIn proposalInStore runIn stepIn answer unsynced tabled adds known fitting loadTests putLists tableAt loadedSingle loadedUnion tableMade requirementOf firstSlot setCount listCount setOf cellsOf examine queuedTurn upTo mentions meets member allFalse flattened firstThat countUndecided frontier evaluate largest anyHot good admitted activityWith quiet activityOn activityOnStore activityTests area at put putRun blank freshWords allFrom moved inserted every sweep oldEntries newEntries touchedIn touchesIn wakesAt spoilsAt wokenWords spoiledWords sweptWords copiedWords mirroredWords syncInStore loaded leafIn branchIn loadConditionTests leafed branched nodePut literalsOf loadVersionSetTests assignOn assignTests pushed cellValue cellSide cellLevel cellOf decisionAt levelAt levelOfLast entryAbove popped undoLastTests poppedTo cleared noStop undoUntilTests odd ofFields ofBits toBits size climb span onwardOf
 computed = (refl, refl)
 
 alone-say : each start alone ≡ map expected alone

@@ -23,7 +23,8 @@ use Rattle.promises.specs.Six.{SameClauses}
 use Rattle.requirement.specs.Tables.{keyAt}
 use Rattle.rules.proofs.Ranks.{at-rank}
 use Rattle.rules.proofs.Placing.{fresh-position, register-position}
-use Rattle.rules.specs.Position.{ranks, History, InPosition, SameHistory, filed, noHistory}
+use Rattle.rules.specs.Numbers.{from}
+use Rattle.rules.specs.Position.{History, InPosition, SameHistory, filed, noHistory}
 use Rattle.rules.specs.Store.{Store}
 use Rattle.rules.proofs.Choice.{lt-or}
 use Rattle.store.proofs.Rows.{judged-clear}
@@ -43,10 +44,10 @@ stays : (s w : List ℕ) (h : History) → SameClauses s w → Follows w h → F
 stays s w h c p =
     record {
       size-is = c .counts ∙ p .size-is;
-      parents-are = (λ i. map (fun-ext (c .parents) i) (ranks (c .counts i))) ∙ p .parents-are;
-      requirements-are = (λ i. map (fun-ext (c .requirements-same) i) (ranks (c .counts i))) ∙ p .requirements-are;
-      conditions-are = (λ i. map (fun-ext (c .conditions) i) (ranks (c .counts i))) ∙ p .conditions-are;
-      clauseIds-are = (λ i. map (fun-ext (c .ids) i) (ranks (c .counts i))) ∙ p .clauseIds-are;
+      parents-are = (λ i. from (fun-ext (c .parents) i) 0 (c .counts i)) ∙ p .parents-are;
+      requirements-are = (λ i. from (fun-ext (c .requirements-same) i) 0 (c .counts i)) ∙ p .requirements-are;
+      conditions-are = (λ i. from (fun-ext (c .conditions) i) 0 (c .counts i)) ∙ p .conditions-are;
+      clauseIds-are = (λ i. from (fun-ext (c .ids) i) 0 (c .counts i)) ∙ p .clauseIds-are;
     }
 
 -- a fresh store
@@ -121,9 +122,9 @@ module _ (w u : List ℕ) (r : ReachedWords w) (q : ReachedWords u) (h : SameHis
   counted : at clauseCount 0 w ≡ at clauseCount 0 u
   counted = here .size-is ∙ h .count-same ∙ sym (there .size-is)
 
-  by-rank : {A : Type 0} (f g : ℕ → A) → map f (ranks (at clauseCount 0 w)) ≡ map g (ranks (at clauseCount 0 u)) → ((k : ℕ) → at clauseCount 0 w ≤ k → f k ≡ g k) → (k : ℕ) → f k ≡ g k
+  by-rank : {A : Type 0} (f g : ℕ → A) → from f 0 (at clauseCount 0 w) ≡ from g 0 (at clauseCount 0 u) → ((k : ℕ) → at clauseCount 0 w ≤ k → f k ≡ g k) → (k : ℕ) → f k ≡ g k
   by-rank f g e none k =
-      ⊎-elim (λ (l : k < at clauseCount 0 w). at-rank f g (at clauseCount 0 w) k (e ∙ ap (λ (n : ℕ). map g (ranks n)) (sym counted)) l)
+      ⊎-elim (λ (l : k < at clauseCount 0 w). at-rank f g (at clauseCount 0 w) k (e ∙ ap (from g 0) (sym counted)) l)
       (λ (l : at clauseCount 0 w ≤ k). none k l) (lt-or k (at clauseCount 0 w))
 
   none-there : (a : Area) (k : ℕ) → at clauseCount 0 w ≤ k → ofClause a w k ≡ ofClause a u k

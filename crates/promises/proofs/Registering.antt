@@ -13,7 +13,7 @@ use Rattle.clauses.proofs.Kept.{registered-sound, registered-outside}
 use Rattle.clauses.proofs.Ranking.{rank-most}
 use Rattle.clauses.proofs.ReadBack.{Shifted, shifted-each, parent-shifted, requirement-shifted, condition-shifted, id-shifted, mark-shifted, count-registered}
 use Rattle.clauses.proofs.Registers.{left-either}
-use Rattle.clauses.specs.Record.{behindLast, rankOf}
+use Rattle.clauses.specs.Record.{parentAt, rankOf}
 use Rattle.clauses.specs.Register.{knownCondition, conditionWord, Placed, queuedMark, registered, registerInStore, registerStore}
 use Rattle.meaning.proofs.Frames.{cachesRegion, lists-same, literals-same, cache-same, mirror-same, trail-same}
 use Rattle.meaning.proofs.Records.{clause-word, clause-none}
@@ -32,13 +32,11 @@ use Rattle.store.specs.Layout.{activities, clauseConditions, clauseCount, claus
 use Rattle.store.specs.Limits.{lastLevel, lastWord, names}
 use Rattle.store.specs.Shape.{Sound, soundShape}
 use Rattle.tables.specs.Answer.{loaded}
-use Rattle.trail.specs.Cell.{cellSide, cellValue}
-use Rattle.rules.specs.declared.Value.the-variants.{False, True, Undecided}
 use Rattle.trail.specs.Assignment.{assigned}
 
 -- the words' rank is the rules' rank
-ranks-agree : (w : List ℕ) (parent n k : ℕ) → k ≤ at clauseCount 0 w → behindLast w parent n k ≡ behind (ofClause clauseParents w) parent k n
-unfolding behindLast behind
+ranks-agree : (w : List ℕ) (parent n k : ℕ) → k ≤ at clauseCount 0 w → behind (parentAt w) parent k n ≡ behind (ofClause clauseParents w) parent k n
+unfolding behind
 ranks-agree w parent n zero h = refl
 ranks-agree w parent n (suc k) h = rw (clause-word clauseParents w k (omega arith), ranks-agree w parent n k (omega arith))
 
@@ -76,13 +74,12 @@ inserted-map {A} {B} g f i x k = go (ltb k i) (eqb k i)
 
 -- the new mark is that the parent is true
 mark-true : (w : List ℕ) (parent : ℕ) → eqb (queuedMark w parent) 1 ≡ isTrue (assigned w parent)
-unfolding queuedMark assigned cellSide cellValue
-mark-true w parent = go (eqb (at map parent w) 0) (leb (at map parent w) lastLevel)
+unfolding queuedMark
+mark-true w parent = go (isTrue (assigned w parent))
   where
-    go : (b c : Bool) → eqb (cond (eqb (cond b 2 (cond c 1 0)) 1) 1 0) 1 ≡ isTrue (cond b Undecided (cond c True False))
-    go true c = refl
-    go false true = refl
-    go false false = refl
+    go : (b : Bool) → eqb (cond b 1 0) 1 ≡ b
+    go true = refl
+    go false = refl
 
 -- a known condition is stored as one that is loaded
 known-loaded : (w : List ℕ) (condition : ℕ) → knownCondition w condition ≡ true → conditionWord condition ≢ 0 → at disjunctionSizes (conditionWord condition - 1) w ≢ 0

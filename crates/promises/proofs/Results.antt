@@ -28,7 +28,7 @@ use Rattle.rules.proofs.Sweeps.{routes-same}
 use Rattle.rules.specs.Leaving.{notOpen}
 use Rattle.rules.specs.Queue.{Queue, tally}
 use Rattle.rules.specs.Sync.{routes}
-use Rattle.rules.specs.Walk.{look, member, inMode, named, walk}
+use Rattle.rules.specs.Walk.{anyHot, look, member, inMode, named, walk}
 use Rattle.store.proofs.AreaLaws.{at-past}
 use Rattle.rules.proofs.Choice.{lt-or, true-false, or-cases}
 use Rattle.store.proofs.Soundness.{sound-facts}
@@ -158,7 +158,7 @@ module _ (w u : List ℕ) (r : ReachedWords w) (q : ReachedWords u) (same : Same
 
   -- a name of a candidate list is in range
   in-range : (n slot count : ℕ) → T (named n (from (listAt u) slot count)) → n < names
-  unfolding from named listAt
+  unfolding from anyHot listAt
   in-range n slot zero t = absurd t
   in-range n slot (suc count) t =
       ⊎-elim (λ (l : T (eqb n ((listAt u slot) .name))). name-below u slot n (reached-genuine u q .sound) (eqb→eq n ((listAt u slot) .name) l))

@@ -22,7 +22,7 @@ use trail::decision_tracker;
 
 // The check itself: 1 if the store is of sound shape.
 #[no_mangle]
-pub extern "C" fn inner_sound(s: &[u32]) -> u32
+pub extern "C" fn unchecked_sound(s: &[u32]) -> u32
     ensures { λ r. ⌜ r ≡ cond (soundShape (now (s .entry))) 1 0 ⌝ }
 {
     if shape::sound(s) {
@@ -32,7 +32,7 @@ pub extern "C" fn inner_sound(s: &[u32]) -> u32
 }
 
 #[no_mangle]
-pub extern "C" fn inner_register(
+pub extern "C" fn unchecked_register(
     s: &mut [u32],
     parent: u32,
     kind: u32,
@@ -54,7 +54,7 @@ pub extern "C" fn inner_register(
 }
 
 #[no_mangle]
-pub extern "C" fn inner_assign(
+pub extern "C" fn unchecked_assign(
     s: &mut [u32],
     variable: u32,
     value: u32,
@@ -72,7 +72,7 @@ pub extern "C" fn inner_assign(
 }
 
 #[no_mangle]
-pub extern "C" fn inner_undo_last(s: &mut [u32], out: &mut [u32; 4]) -> u32
+pub extern "C" fn unchecked_undo_last(s: &mut [u32], out: &mut [u32; 4]) -> u32
     requires { ⌜ Sound (now s) ⌝ }
     ensures { λ r. ⌜ (r ≡ undoneNumber (undoLastIn (now (s .entry)))) × (now (s .exit) ≡ undoLastInStore (now (s .entry))) × (now (out .exit) ≡ written (undoneValues (undoLastIn (now (s .entry)))) (now (out .entry))) ⌝ }
 {
@@ -80,7 +80,7 @@ pub extern "C" fn inner_undo_last(s: &mut [u32], out: &mut [u32; 4]) -> u32
 }
 
 #[no_mangle]
-pub extern "C" fn inner_undo_until(s: &mut [u32], level: u32) -> u32
+pub extern "C" fn unchecked_undo_until(s: &mut [u32], level: u32) -> u32
     requires { ⌜ Sound (now s) ⌝ }
     ensures { λ r. ⌜ (r ≡ untilNumber (undoUntilIn (now (s .entry)) level)) × (now (s .exit) ≡ undoUntilInStore (now (s .entry)) level) ⌝ }
 {
@@ -88,7 +88,7 @@ pub extern "C" fn inner_undo_until(s: &mut [u32], level: u32) -> u32
 }
 
 #[no_mangle]
-pub extern "C" fn inner_next(s: &mut [u32], out: &mut [u32; 4]) -> u32
+pub extern "C" fn unchecked_next(s: &mut [u32], out: &mut [u32; 4]) -> u32
     requires { ⌜ Sound (now s) ⌝ }
     ensures { λ r. ⌜ (r ≡ nextNumber (nextIn (now (s .entry)))) × (now (s .exit) ≡ nextInStore (now (s .entry))) × (now (out .exit) ≡ written (nextValues (nextIn (now (s .entry)))) (now (out .entry))) ⌝ }
 {
@@ -96,7 +96,7 @@ pub extern "C" fn inner_next(s: &mut [u32], out: &mut [u32; 4]) -> u32
 }
 
 #[no_mangle]
-pub extern "C" fn inner_sync(s: &mut [u32], out: &mut [u32; 1]) -> u32
+pub extern "C" fn unchecked_sync(s: &mut [u32], out: &mut [u32; 1]) -> u32
     requires { ⌜ Sound (now s) ⌝ }
     ensures { λ r. ⌜ (r ≡ syncedNumber (Touches (touchesIn (now (s .entry))))) × (now (s .exit) ≡ syncInStore (now (s .entry))) × (now (out .exit) ≡ written (syncedValues (Touches (touchesIn (now (s .entry))))) (now (out .entry))) ⌝ }
 {
@@ -105,7 +105,7 @@ pub extern "C" fn inner_sync(s: &mut [u32], out: &mut [u32; 1]) -> u32
 
 // The store must be synced too for the answer to be the public call's: 7 is not tested.
 #[no_mangle]
-pub extern "C" fn inner_propose(s: &mut [u32], out: &mut [u32; 7]) -> u32
+pub extern "C" fn unchecked_propose(s: &mut [u32], out: &mut [u32; 7]) -> u32
     requires { ⌜ Sound (now s) ⌝ }
     ensures { λ r. ⌜ (r ≡ proposalNumber (proposalIn (now (s .entry)))) × (now (s .exit) ≡ proposalInStore (now (s .entry))) × (now (out .exit) ≡ proposed (proposalIn (now (s .entry))) (now (out .entry))) ⌝ }
 {

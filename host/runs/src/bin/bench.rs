@@ -1,5 +1,5 @@
 //! Times the same scripts on the original and on the library, turn by turn, and prints nanoseconds a call with their ratios: of the
-//! public calls, which check the shape of all words first, and of the inner calls, which are the same without the check.
+//! public calls, which check the shape of all words first, and of the unchecked calls, which are the same without the check.
 
 use imbolaverk::Store;
 use imbolaverk_runs::generate::solving;
@@ -18,11 +18,11 @@ and prints the medians.
   --help, -h  this text
   --version   the version";
 
-/// The inner calls, of `libinner.a`: nothing tests their precondition, a store of sound shape, so they are for this program alone.
-mod inner {
+/// The unchecked calls, of `libunchecked.a`: nothing tests their precondition, a store of sound shape, so they are for this program alone.
+mod unchecked {
     extern "C" {
-        pub fn inner_sound(s: *const u32, n: usize) -> u32;
-        pub fn inner_register(
+        pub fn unchecked_sound(s: *const u32, n: usize) -> u32;
+        pub fn unchecked_register(
             s: *mut u32,
             n: usize,
             parent: u32,
@@ -31,12 +31,12 @@ mod inner {
             condition: u32,
             clause: u32,
         ) -> u32;
-        pub fn inner_assign(s: *mut u32, n: usize, variable: u32, value: u32, level: u32, clause: u32, out: *mut u32) -> u32;
-        pub fn inner_undo_last(s: *mut u32, n: usize, out: *mut u32) -> u32;
-        pub fn inner_undo_until(s: *mut u32, n: usize, level: u32) -> u32;
-        pub fn inner_next(s: *mut u32, n: usize, out: *mut u32) -> u32;
-        pub fn inner_sync(s: *mut u32, n: usize, out: *mut u32) -> u32;
-        pub fn inner_propose(s: *mut u32, n: usize, out: *mut u32) -> u32;
+        pub fn unchecked_assign(s: *mut u32, n: usize, variable: u32, value: u32, level: u32, clause: u32, out: *mut u32) -> u32;
+        pub fn unchecked_undo_last(s: *mut u32, n: usize, out: *mut u32) -> u32;
+        pub fn unchecked_undo_until(s: *mut u32, n: usize, level: u32) -> u32;
+        pub fn unchecked_next(s: *mut u32, n: usize, out: *mut u32) -> u32;
+        pub fn unchecked_sync(s: *mut u32, n: usize, out: *mut u32) -> u32;
+        pub fn unchecked_propose(s: *mut u32, n: usize, out: *mut u32) -> u32;
     }
 }
 
@@ -58,27 +58,27 @@ fn main() {
             solving(clauses, standard).into_iter().filter(|line| takes(&line.answer)).map(|line| line.call).collect();
         let calls: Vec<Call> = lines.iter().map(|line| Call::read(line).expect("a call")).collect();
         let text = lines.join("\n") + "\n";
-        let (mut original, mut public, mut inner, mut checks) = (vec![], vec![], vec![], vec![]);
+        let (mut original, mut public, mut unchecked, mut checks) = (vec![], vec![], vec![], vec![]);
         for _ in 0..turns {
             original.push(original_times(&text, repeats));
             public.push(library_times(&calls, repeats, call_public));
-            inner.push(library_times(&calls, repeats, call_inner));
+            unchecked.push(library_times(&calls, repeats, call_unchecked));
             checks.push(check_time(&calls));
         }
         let mode = if standard { "standard" } else { "the other" };
         println!("{clauses} clauses, {mode} mode, {} calls a run; the shape check alone: {:.0} ns", calls.len(), median(checks));
-        print_kinds(&original, &public, &inner);
+        print_kinds(&original, &public, &unchecked);
     }
 }
 
 /// A line a kind, and one for a sync with its proposal.
-fn print_kinds(original: &[Times], public: &[Times], inner: &[Times]) {
-    println!("  {:12} {:>11} {:>10} {:>7} {:>10} {:>7}", "call", "original ns", "public ns", "ratio", "inner ns", "ratio");
+fn print_kinds(original: &[Times], public: &[Times], unchecked: &[Times]) {
+    println!("  {:12} {:>11} {:>10} {:>7} {:>10} {:>7}", "call", "original ns", "public ns", "ratio", "unchecked ns", "ratio");
     let line = |name: &str, kinds: &[&str]| {
         let sum = |turns: &[Times]| -> f64 {
             kinds.iter().map(|kind| median(turns.iter().filter_map(|times| times.get(*kind).copied()).collect())).sum()
         };
-        let (theirs, ours, within) = (sum(original), sum(public), sum(inner));
+        let (theirs, ours, within) = (sum(original), sum(public), sum(unchecked));
         println!("  {name:12} {theirs:11.1} {ours:10.1} {:7.2} {within:10.1} {:7.2}", ours / theirs, within / theirs);
     };
     for kind in KINDS {
@@ -142,7 +142,7 @@ fn check_time(calls: &[Call]) -> f64 {
     let words = store.words();
     let began = Instant::now();
     for _ in 0..CHECKS {
-        black_box(unsafe { inner::inner_sound(words.as_ptr(), words.len()) });
+        black_box(unsafe { unchecked::unchecked_sound(words.as_ptr(), words.len()) });
     }
     began.elapsed().as_nanos() as f64 / f64::from(CHECKS)
 }
@@ -163,25 +163,25 @@ fn call_public(call: &Call, store: &mut Store) {
     }
 }
 
-/// The inner call, where there is one. Public calls alone made the store, and inner ones keep it sound.
-fn call_inner(call: &Call, store: &mut Store) {
+/// The unchecked call, where there is one. Public calls alone made the store, and unchecked ones keep it sound.
+fn call_unchecked(call: &Call, store: &mut Store) {
     let mut out = [0; 7];
     let o = out.as_mut_ptr();
     let words = store.words_mut();
     let (s, n) = (words.as_mut_ptr(), words.len());
     let number = unsafe {
         match *call {
-            Call::Sync => inner::inner_sync(s, n, o),
-            Call::Propose => inner::inner_propose(s, n, o),
+            Call::Sync => unchecked::unchecked_sync(s, n, o),
+            Call::Propose => unchecked::unchecked_propose(s, n, o),
             Call::Assign { variable, value, level, clause } => {
-                inner::inner_assign(s, n, variable, value as u32, level, clause, o)
+                unchecked::unchecked_assign(s, n, variable, value as u32, level, clause, o)
             }
-            Call::UndoLast => inner::inner_undo_last(s, n, o),
-            Call::UndoUntil(level) => inner::inner_undo_until(s, n, level),
-            Call::Next => inner::inner_next(s, n, o),
+            Call::UndoLast => unchecked::unchecked_undo_last(s, n, o),
+            Call::UndoUntil(level) => unchecked::unchecked_undo_until(s, n, level),
+            Call::Next => unchecked::unchecked_next(s, n, o),
             Call::Register { parent, requirement, condition, clause } => {
                 let (kind, id) = requirement.words();
-                inner::inner_register(s, n, parent, kind, id, condition.word(), clause)
+                unchecked::unchecked_register(s, n, parent, kind, id, condition.word(), clause)
             }
             _ => return call_public(call, store),
         }

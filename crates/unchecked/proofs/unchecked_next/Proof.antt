@@ -1,6 +1,6 @@
 use borrow.Author.Needs.{needs}
-use Rattle.inner.proofs.inner_next.Statement.{statement}
-use Rattle.inner.proofs.inner_next.Tie as tie
+use Rattle.unchecked.proofs.unchecked_next.Statement.{statement}
+use Rattle.unchecked.proofs.unchecked_next.Tie as tie
 
 next-unpropagated-requires : tie.Need-next-unpropagated-requires
 next-unpropagated-requires c κs = search needs
@@ -14,6 +14,6 @@ same-length c = search needs
 returns : tie.Need-returns
 returns c = rw (← c .before .before .before .before .next-unpropagated .ensures .0) (c .give-next .ensures .0, c .before .before .before .before .next-unpropagated .ensures .1, c .give-next .ensures .1)
 
-pub inner-next-spec : {M : Type 1} → statement M
-inner-next-spec =
+pub unchecked-next-spec : {M : Type 1} → statement M
+unchecked-next-spec =
     tie.close (tie.spec next-unpropagated-requires give-next-requires same-length returns)

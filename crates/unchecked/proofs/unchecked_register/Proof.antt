@@ -1,8 +1,8 @@
 use mathlib.Core.Path.{_∙_, ap}
 use borrow.Author.Needs.{needs}
 use Rattle.clauses.specs.Register.{registeredNumber}
-use Rattle.inner.proofs.inner_register.Statement.{statement}
-use Rattle.inner.proofs.inner_register.Tie as tie
+use Rattle.unchecked.proofs.unchecked_register.Statement.{statement}
+use Rattle.unchecked.proofs.unchecked_register.Tie as tie
 
 register-requires : tie.Need-register-requires
 register-requires c κs = search needs
@@ -16,6 +16,6 @@ same-length c = search needs
 returns : tie.Need-returns
 returns c = (c .registered-number .ensures ∙ ap registeredNumber (c .before .before .before .register .ensures .0), c .before .before .before .register .ensures .1)
 
-pub inner-register-spec : {M : Type 1} → statement M
-inner-register-spec =
+pub unchecked-register-spec : {M : Type 1} → statement M
+unchecked-register-spec =
     tie.close (tie.spec register-requires registered-number-requires same-length returns)

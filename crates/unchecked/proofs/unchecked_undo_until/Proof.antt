@@ -1,8 +1,8 @@
 use mathlib.Core.Path.{_∙_, ap}
 use borrow.Author.Needs.{needs}
 use Rattle.trail.specs.UndoUntil.{untilNumber}
-use Rattle.inner.proofs.inner_undo_until.Statement.{statement}
-use Rattle.inner.proofs.inner_undo_until.Tie as tie
+use Rattle.unchecked.proofs.unchecked_undo_until.Statement.{statement}
+use Rattle.unchecked.proofs.unchecked_undo_until.Tie as tie
 
 undo-until-requires : tie.Need-undo-until-requires
 undo-until-requires c κs = search needs
@@ -16,6 +16,6 @@ same-length c = search needs
 returns : tie.Need-returns
 returns c = (c .until-number .ensures ∙ ap untilNumber (c .before .before .before .undo-until .ensures .0), c .before .before .before .undo-until .ensures .1)
 
-pub inner-undo-until-spec : {M : Type 1} → statement M
-inner-undo-until-spec =
+pub unchecked-undo-until-spec : {M : Type 1} → statement M
+unchecked-undo-until-spec =
     tie.close (tie.spec undo-until-requires until-number-requires same-length returns)

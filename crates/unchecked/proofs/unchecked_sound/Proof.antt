@@ -1,7 +1,7 @@
 use borrow.Author.Needs.{needs}
 use mathlib.Core.Path.{refl}
-use Rattle.inner.proofs.inner_sound.Statement.{statement}
-use Rattle.inner.proofs.inner_sound.Tie as tie
+use Rattle.unchecked.proofs.unchecked_sound.Statement.{statement}
+use Rattle.unchecked.proofs.unchecked_sound.Tie as tie
 
 sound-requires : tie.Need-sound-requires
 sound-requires c κs = search needs
@@ -12,5 +12,5 @@ returns c = simp (← c .before .sound .ensures, c .if1 .taken) refl
 returns-2 : tie.Need-returns-2
 returns-2 c = simp (← c .before .sound .ensures, c .if1 .left) refl
 
-pub inner-sound-spec : {M : Type 1} → statement M
-inner-sound-spec = tie.close (tie.spec sound-requires returns returns-2)
+pub unchecked-sound-spec : {M : Type 1} → statement M
+unchecked-sound-spec = tie.close (tie.spec sound-requires returns returns-2)

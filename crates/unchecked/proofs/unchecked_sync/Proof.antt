@@ -5,8 +5,8 @@ use borrow.Author.Needs.{needs}
 use Rattle.imbolaverk.specs.Written.{written}
 use Rattle.sync.specs.Sync.{syncedNumber, syncedValues}
 use Rattle.sync.specs.declared.Synced.{Synced}
-use Rattle.inner.proofs.inner_sync.Statement.{statement}
-use Rattle.inner.proofs.inner_sync.Tie as tie
+use Rattle.unchecked.proofs.unchecked_sync.Statement.{statement}
+use Rattle.unchecked.proofs.unchecked_sync.Tie as tie
 
 sync-requires : tie.Need-sync-requires
 sync-requires c κs = search needs
@@ -29,5 +29,5 @@ returns c = (
   same-written _ (c .before .before .before .before .sync .ensures .0) (c .give-synced .ensures .1),
 )
 
-pub inner-sync-spec : {M : Type 1} → statement M
-inner-sync-spec = tie.close (tie.spec sync-requires give-synced-requires same-length returns)
+pub unchecked-sync-spec : {M : Type 1} → statement M
+unchecked-sync-spec = tie.close (tie.spec sync-requires give-synced-requires same-length returns)

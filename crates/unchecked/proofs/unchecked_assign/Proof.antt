@@ -1,6 +1,6 @@
 use borrow.Author.Needs.{needs}
-use Rattle.inner.proofs.inner_assign.Statement.{statement}
-use Rattle.inner.proofs.inner_assign.Tie as tie
+use Rattle.unchecked.proofs.unchecked_assign.Statement.{statement}
+use Rattle.unchecked.proofs.unchecked_assign.Tie as tie
 
 assign-requires : tie.Need-assign-requires
 assign-requires c κs = search needs
@@ -14,5 +14,5 @@ same-length c = search needs
 returns : tie.Need-returns
 returns c = rw (← c .before .before .before .before .assign .ensures .0) (c .give-assigned .ensures .0, c .before .before .before .before .assign .ensures .1, c .give-assigned .ensures .1)
 
-pub inner-assign-spec : {M : Type 1} → statement M
-inner-assign-spec = tie.close (tie.spec assign-requires give-assigned-requires same-length returns)
+pub unchecked-assign-spec : {M : Type 1} → statement M
+unchecked-assign-spec = tie.close (tie.spec assign-requires give-assigned-requires same-length returns)
