@@ -1,6 +1,7 @@
 // Clauses: their records in position order, and registering. Each public call tests the store's shape first.
 ghost use mathlib.Core.Path.{_≡_};
-ghost use Rattle.clauses.specs.Register.{registerOut, registerStore};
+ghost use Rattle.clauses.specs.Register.{registerRow};
+ghost use Rattle.store.specs.Row.{answerAny, leftAny};
 use requirement::Requirement;
 use store::refusals;
 use store::shape;
@@ -30,7 +31,7 @@ pub fn register(
     condition: u32,
     clause: u32,
 ) -> Registered
-    ensures { λ r. ⌜ (r ≡ registerOut (now (s .entry)) parent kind requirement condition) × (now (s .exit) ≡ registerStore (now (s .entry)) parent kind requirement condition clause) ⌝ }
+    ensures { λ r. ⌜ (r ≡ answerAny (now (s .entry)) (registerRow (now (s .entry)) parent kind requirement condition clause)) × (now (s .exit) ≡ leftAny (now (s .entry)) (registerRow (now (s .entry)) parent kind requirement condition clause)) ⌝ }
 {
     if shape::sound(s) {
         return registering::register(s, parent, kind, requirement, condition, clause);

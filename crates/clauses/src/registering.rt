@@ -9,7 +9,8 @@ ghost use Rattle.store.specs.Layout.{words};
 ghost use Rattle.store.specs.Limits.{clauses, variables, requirements, lists};
 ghost use Rattle.store.specs.Shape.{Sound};
 ghost use Rattle.clauses.specs.Names.{newName, nameCount, newNames, distinctNames};
-ghost use Rattle.clauses.specs.Register.{knownCondition, conditionWord, literalCountOf, allNamed, hasRoom, registerIn, queuedMark, recordIn, Placed, registered, registerInStore};
+ghost use Rattle.clauses.specs.Register.{knownCondition, conditionWord, literalCountOf, allNamed, hasRoom, queuedMark, recordIn, Placed, registered, registerRow};
+ghost use Rattle.store.specs.Row.{answerSound, leftSound};
 use crate::Clause;
 use crate::Registered;
 use crate::records;
@@ -142,7 +143,7 @@ fn has_room(s: &[u32], key: usize, condition: u32) -> bool
 // What registering would answer.
 fn register_case(s: &[u32], parent: u32, kind: u32, requirement: u32, condition: u32) -> Registered
     requires { ⌜ Sound (now s) ⌝ }
-    ensures { λ r. ⌜ r ≡ registerIn (now (s .entry)) parent kind requirement condition ⌝ }
+    ensures { λ r. ⌜ r ≡ answerSound (registerRow (now (s .entry)) parent kind requirement condition 0) ⌝ }
 {
     if is_named(s, parent, kind, requirement, condition) {} else {
         return Registered::Refused(refusals::BAD_ID);
@@ -239,7 +240,7 @@ pub fn register(
     clause: u32,
 ) -> Registered
     requires { ⌜ Sound (now s) ⌝ }
-    ensures { λ r. ⌜ (r ≡ registerIn (now (s .entry)) parent kind requirement condition) × (now (s .exit) ≡ registerInStore (now (s .entry)) parent kind requirement condition clause) ⌝ }
+    ensures { λ r. ⌜ (r ≡ answerSound (registerRow (now (s .entry)) parent kind requirement condition clause)) × (now (s .exit) ≡ leftSound (now (s .entry)) (registerRow (now (s .entry)) parent kind requirement condition clause)) ⌝ }
 {
     let r = register_case(s, parent, kind, requirement, condition);
     match r {

@@ -8,8 +8,9 @@ ghost use Rattle.store.specs.Limits.{lastVariable};
 ghost use Rattle.rules.specs.Numbers.{allFrom};
 ghost use Rattle.store.specs.Shape.{Sound, every, upTo};
 ghost use Rattle.conditions.specs.Truth.{some};
-ghost use Rattle.conditions.specs.Disjunct.{sane, saneAt, saneAll, holdsAt, disjunctIn};
+ghost use Rattle.conditions.specs.Disjunct.{sane, saneAt, saneAll, holdsAt, disjunctRow};
 ghost use Rattle.trail.specs.Assignment.{assignedTrue};
+ghost use Rattle.store.specs.Row.{answerSound};
 use crate::Holds;
 use store::lent;
 use store::limits;
@@ -104,7 +105,7 @@ pub fn disjunct_holds(
     cells: &[u32],
 ) -> Holds
     requires { ⌜ Sound (now s) ⌝ }
-    ensures { λ r. ⌜ r ≡ disjunctIn (now (s .entry)) (now (kinds .entry)) (now (starts .entry)) (now (lengths .entry)) (now (cells .entry)) ⌝ }
+    ensures { λ r. ⌜ r ≡ answerSound (disjunctRow (now (s .entry)) (now (kinds .entry)) (now (starts .entry)) (now (lengths .entry)) (now (cells .entry))) ⌝ }
 {
     if lists_sane(kinds, starts, lengths, cells) {
         if all_hold(s, kinds, starts, lengths, cells) {

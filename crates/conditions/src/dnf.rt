@@ -11,8 +11,9 @@ ghost use Rattle.store.specs.Limits.{mostTerms, mostSets};
 ghost use Rattle.store.specs.Shape.{Sound};
 ghost use Rattle.conditions.specs.Dnf.{termOf};
 ghost use Rattle.conditions.specs.Ways.{countOf, Tallied, Asked, AllAsked, Good};
-ghost use Rattle.conditions.specs.Rewrite.{rewriteIn, rewriteInLengths, rewriteInCells};
+ghost use Rattle.conditions.specs.Rewrite.{rewriteSoundLengths, rewriteSoundCells, rewriteRow};
 ghost use Rattle.conditions.specs.Steps.{cellsTo, shortAt, lengthsLeft, cellsLeft};
+ghost use Rattle.store.specs.Row.{answerSound};
 use crate::Rewritten;
 use crate::Way;
 use store::codes;
@@ -174,7 +175,7 @@ fn count_cells(s: &[u32], counts: &[u32; LINKS], c: usize, n: usize) -> usize
 fn rewrite_case(s: &[u32], counts: &[u32; LINKS], node: u32, rooms: usize, room: usize) -> Rewritten
     requires { ⌜ Sound (now s) ⌝ }
     requires { ⌜ Tallied (now s) (now counts) ⌝ }
-    ensures { λ r. ⌜ r ≡ rewriteIn (now (s .entry)) node rooms room ⌝ }
+    ensures { λ r. ⌜ r ≡ answerSound (rewriteRow (now (s .entry)) node rooms room) ⌝ }
 {
     if limits::NODES as u32 <= node {
         return Rewritten::Refused(refusals::BAD_ID);
@@ -228,7 +229,7 @@ fn write_terms(
 
 pub fn rewrite(s: &[u32], node: u32, lengths: &mut [u32], cells: &mut [u32]) -> Rewritten
     requires { ⌜ Sound (now s) ⌝ }
-    ensures { λ r. ⌜ (r ≡ rewriteIn (now (s .entry)) node (length (now (lengths .entry))) (length (now (cells .entry)))) × (now (lengths .exit) ≡ rewriteInLengths (now (s .entry)) node (now (lengths .entry)) (now (cells .entry))) × (now (cells .exit) ≡ rewriteInCells (now (s .entry)) node (now (lengths .entry)) (now (cells .entry))) ⌝ }
+    ensures { λ r. ⌜ (r ≡ answerSound (rewriteRow (now (s .entry)) node (length (now (lengths .entry))) (length (now (cells .entry))))) × (now (lengths .exit) ≡ rewriteSoundLengths (now (s .entry)) node (now (lengths .entry)) (now (cells .entry))) × (now (cells .exit) ≡ rewriteSoundCells (now (s .entry)) node (now (lengths .entry)) (now (cells .entry))) ⌝ }
 {
     let counts = tally(s);
     let r = rewrite_case(s, &counts, node, lengths.len(), cells.len());

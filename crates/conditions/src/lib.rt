@@ -1,8 +1,9 @@
 // Conditions: rewriting a condition's tree to its terms, and whether a disjunct holds. Each public call tests the store's shape first.
 ghost use mathlib.Core.Path.{_≡_};
 ghost use lib.ListN.{length};
-ghost use Rattle.conditions.specs.Rewrite.{rewriteOut, rewriteLengths, rewriteCells};
-ghost use Rattle.conditions.specs.Disjunct.{disjunctOut};
+ghost use Rattle.conditions.specs.Rewrite.{rewriteLengths, rewriteCells, rewriteRow};
+ghost use Rattle.conditions.specs.Disjunct.{disjunctRow};
+ghost use Rattle.store.specs.Row.{answerAny};
 use store::refusals;
 use store::shape;
 
@@ -29,7 +30,7 @@ pub enum Holds {
 
 // Rewrites the condition of a node: the lengths of its terms, and the terms one after the other.
 pub fn rewrite(s: &[u32], node: u32, lengths: &mut [u32], cells: &mut [u32]) -> Rewritten
-    ensures { λ r. ⌜ (r ≡ rewriteOut (now (s .entry)) node (length (now (lengths .entry))) (length (now (cells .entry)))) × (now (lengths .exit) ≡ rewriteLengths (now (s .entry)) node (now (lengths .entry)) (now (cells .entry))) × (now (cells .exit) ≡ rewriteCells (now (s .entry)) node (now (lengths .entry)) (now (cells .entry))) ⌝ }
+    ensures { λ r. ⌜ (r ≡ answerAny (now (s .entry)) (rewriteRow (now (s .entry)) node (length (now (lengths .entry))) (length (now (cells .entry))))) × (now (lengths .exit) ≡ rewriteLengths (now (s .entry)) node (now (lengths .entry)) (now (cells .entry))) × (now (cells .exit) ≡ rewriteCells (now (s .entry)) node (now (lengths .entry)) (now (cells .entry))) ⌝ }
 {
     if shape::sound(s) {
         return dnf::rewrite(s, node, lengths, cells);
@@ -45,7 +46,7 @@ pub fn disjunct_holds(
     lengths: &[u32],
     cells: &[u32],
 ) -> Holds
-    ensures { λ r. ⌜ r ≡ disjunctOut (now (s .entry)) (now (kinds .entry)) (now (starts .entry)) (now (lengths .entry)) (now (cells .entry)) ⌝ }
+    ensures { λ r. ⌜ r ≡ answerAny (now (s .entry)) (disjunctRow (now (s .entry)) (now (kinds .entry)) (now (starts .entry)) (now (lengths .entry)) (now (cells .entry))) ⌝ }
 {
     if shape::sound(s) {
         return disjunct::disjunct_holds(s, kinds, starts, lengths, cells);

@@ -9,7 +9,7 @@ use Rattle.promises.proofs.Calling.{reached-genuine, reached-on, reache
 use Rattle.imbolaverk.specs.Calls.{Call, ReachedWords, run}
 use Rattle.promises.specs.Six.{SameButMode, SameClauses, SameSix, undropped}
 use Rattle.proposal.proofs.Answers.{proposal-is, synced-store}
-use Rattle.proposal.specs.Propose.{answer, proposalOut, told, unsynced}
+use Rattle.proposal.specs.Propose.{answer, told, unsynced, proposalRow}
 use Rattle.rules.proofs.Demand.{reached-inv, synced-holds}
 use Rattle.rules.specs.Invariant.{Holds}
 use Rattle.rules.specs.Walk.{Environment, inMode, walk}
@@ -19,6 +19,7 @@ use Rattle.rules.specs.declared.Out.the-variants.{Nothing, Choose}
 use Rattle.rules.specs.declared.Value.{Value}
 use Rattle.trail.specs.Assignment.{assigned}
 use Rattle.rules.specs.declared.Out.the-variants as out
+use Rattle.store.specs.Row.{answerAny}
 
 -- the queue of a reached and synced store is right for the present assignment
 pub reached-holds : (w : List ℕ) → ReachedWords w → unsynced w ≡ false → Holds (envOf w) (assigned w) [] (queueOf w)
@@ -28,7 +29,7 @@ reached-holds w r u =
 
 -- DEMAND 2: on a reached and synced store the proposal is the walk's, over the clauses, tables, activities, hot names and mode (`envOf w`)
 -- and the present assignment alone; only the number of dropped clauses is the queue's
-pub demand2 : (w : List ℕ) → ReachedWords w → unsynced w ≡ false → proposalOut w ≡ told w (walk (envOf w) (assigned w)) (answer w .drops)
+pub demand2 : (w : List ℕ) → ReachedWords w → unsynced w ≡ false → answerAny w (proposalRow w) ≡ told w (walk (envOf w) (assigned w)) (answer w .drops)
 demand2 w r u = rw (reached-sound w r, u) (proposal-is w (reached-genuine w r .sound) (reached-holds w r u))
 
 -- two stores that have all but the mode in common have one environment, but for the mode
@@ -57,7 +58,7 @@ told-same w u s (Choose b) d e = rw (s .parents (b .clause), s .ids (b .clause))
 
 -- so they have one proposal where their walks answer alike
 pub one-proposal : (w u : List ℕ) → ReachedWords w → ReachedWords u → unsynced w ≡ false → unsynced u ≡ false → SameButMode w u →
-    walk (inMode (envOf u) ((envOf w) .standard)) (assigned u) ≡ walk (envOf u) (assigned u) → undropped (proposalOut w) ≡ undropped (proposalOut u)
+    walk (inMode (envOf u) ((envOf w) .standard)) (assigned u) ≡ walk (envOf u) (assigned u) → undropped (answerAny w (proposalRow w)) ≡ undropped (answerAny u (proposalRow u))
 one-proposal w u r q x y s e =
     rw (demand2 w r x, demand2 u q y)
     (told-same w u (s .clauses-same) (walk (envOf w) (assigned w)) (answer w .drops) (answer u .drops)
@@ -67,11 +68,11 @@ one-proposal w u r q x y s e =
     ∙ e))
 
 -- DEMAND 3: the proposal of a reached and synced store depends on the six things alone, and on no history
-pub demand3 : (w u : List ℕ) → ReachedWords w → ReachedWords u → unsynced w ≡ false → unsynced u ≡ false → SameSix w u → undropped (proposalOut w) ≡ undropped (proposalOut u)
+pub demand3 : (w u : List ℕ) → ReachedWords w → ReachedWords u → unsynced w ≡ false → unsynced u ≡ false → SameSix w u → undropped (answerAny w (proposalRow w)) ≡ undropped (answerAny u (proposalRow u))
 demand3 w u r q x y s =
     one-proposal w u r q x y (s .but-mode) (ap (λ (m : ℕ). walk (inMode (envOf u) (eqb m 1)) (assigned u)) (s .mode-same))
 
 -- THE BUTTON COMES BACK: she sees a proposal, then accepts, tries, asks and takes back, in any calls, refused ones included; once the six
 -- things are as they were and the store is synced, the proposal that she left is there again
-pub comes-back : (w : List ℕ) → ReachedWords w → unsynced w ≡ false → (tried : List Call) → unsynced (run w tried) ≡ false → SameSix w (run w tried) → undropped (proposalOut (run w tried)) ≡ undropped (proposalOut w)
+pub comes-back : (w : List ℕ) → ReachedWords w → unsynced w ≡ false → (tried : List Call) → unsynced (run w tried) ≡ false → SameSix w (run w tried) → undropped (answerAny (run w tried) (proposalRow (run w tried))) ≡ undropped (answerAny w (proposalRow w))
 comes-back w r x tried y s = sym (demand3 w (run w tried) r (reached-on w r tried) x y s)

@@ -15,12 +15,12 @@ use Rattle.store.specs.Layout.{words}
 use Rattle.clauses.specs.Names.{otherName, newName, nameCount, newNames, distinctNames}
 use Rattle.clauses.specs.Register.{knownCondition, conditionWord, literalCountOf, allNamed, hasRoom, queuedMark, recordIn, registered, registerTests}
 use Rattle.conditions.specs.Dnf.{prefixed, cross, nodeTerms, dnf, linked}
-use Rattle.conditions.specs.Rewrite.{tooMuch, rewriteInLengths, rewriteInCells, rewriteTests}
+use Rattle.conditions.specs.Rewrite.{tooMuch, rewriteSoundLengths, rewriteSoundCells, rewriteTests}
 use Rattle.meaning.specs.Standing.{ofClause, cacheBy, cacheOf, markOf}
 use Rattle.meaning.specs.View.{listAt, listsAt, literalAt, literalsAt}
 use Rattle.examine.specs.Cache.{cached, saved, findingAt, filled}
 use Rattle.promises.proofs.Stepping.{Ran, ran, run-is, runIn, stepIn}
-use Rattle.proposal.specs.Propose.{answer, proposalIn, proposalInStore, unsynced}
+use Rattle.proposal.specs.Propose.{answer, proposalAnswer, proposalLeft, unsynced}
 use Rattle.requirement.specs.Copy.{tabled}
 use Rattle.requirement.specs.Load.{adds, known, fitting, putLists, tableAt, loadedSingle, loadedUnion, loaded as tableMade, loadTests}
 use Rattle.requirement.specs.Tables.{requirementOf, firstSlot, setCount, listCount, setOf, cellsOf}
@@ -37,7 +37,7 @@ use Rattle.rules.specs.Numbers.{allFrom, from}
 use Rattle.store.specs.Ranks.{moved, inserted}
 use Rattle.store.specs.Shape.{every}
 use Rattle.sync.specs.Sweep.{sweep}
-use Rattle.sync.specs.Sync.{oldEntries, newEntries, touchedIn, touchesIn, wakesAt, spoilsAt, wokenWords, spoiledWords, sweptWords, copiedWords, mirroredWords, syncInStore}
+use Rattle.sync.specs.Sync.{oldEntries, newEntries, touchedIn, touchesIn, wakesAt, spoilsAt, wokenWords, spoiledWords, sweptWords, copiedWords, mirroredWords, syncLeft}
 use Rattle.tables.specs.Answer.{loaded}
 use Rattle.tables.specs.Condition.{leafIn, branchIn, leafed, branched, nodePut, loadConditionTests}
 use Rattle.tables.specs.Disjunction.{literalsOf}
@@ -125,7 +125,7 @@ unfoldable onwardOf : Ran → List (List (List ℕ))
 onwardOf r = r .said ∷ eachIn (r .left) onward
 
 computed : (eachIn first alone ≡ map expected alone) × (onwardOf third ≡ map expected (p3 ∷ onward))
-unfolding otherName newName nameCount newNames distinctNames knownCondition conditionWord literalCountOf allNamed hasRoom registerTests queuedMark recordIn registered behind prefixed cross nodeTerms dnf linked lengthsOf joined tooMuch rewriteTests over rewriteInLengths rewriteInCells ofClause cacheBy cacheOf markOf assigned from listAt listsAt literalAt literalsAt cached saved findingAt filled proposalIn proposalInStore runIn stepIn answer unsynced tabled adds known fitting loadTests putLists tableAt loadedSingle loadedUnion tableMade requirementOf firstSlot setCount listCount setOf cellsOf examine queuedTurn upTo mentions meets member allFalse flattened firstThat countUndecided frontier evaluate largest anyHot good admitted activityWith quiet activityOn activityOnStore activityTests area at put putRun blank freshWords allFrom moved inserted every sweep oldEntries newEntries touchedIn touchesIn wakesAt spoilsAt wokenWords spoiledWords sweptWords copiedWords mirroredWords syncInStore loaded leafIn branchIn loadConditionTests leafed branched nodePut literalsOf loadVersionSetTests assignOn assignTests pushed cellValue cellSide cellLevel cellOf decisionAt levelAt levelOfLast entryAbove popped undoLastTests poppedTo cleared noStop undoUntilTests odd ofFields ofBits toBits size climb span onwardOf
+unfolding otherName newName nameCount newNames distinctNames knownCondition conditionWord literalCountOf allNamed hasRoom registerTests queuedMark recordIn registered behind prefixed cross nodeTerms dnf linked lengthsOf joined tooMuch rewriteTests over rewriteSoundLengths rewriteSoundCells ofClause cacheBy cacheOf markOf assigned from listAt listsAt literalAt literalsAt cached saved findingAt filled proposalAnswer proposalLeft runIn stepIn answer unsynced tabled adds known fitting loadTests putLists tableAt loadedSingle loadedUnion tableMade requirementOf firstSlot setCount listCount setOf cellsOf examine queuedTurn upTo mentions meets member allFalse flattened firstThat countUndecided frontier evaluate largest anyHot good admitted activityWith quiet activityOn activityOnStore activityTests area at put putRun blank freshWords allFrom moved inserted every sweep oldEntries newEntries touchedIn touchesIn wakesAt spoilsAt wokenWords spoiledWords sweptWords copiedWords mirroredWords syncLeft loaded leafIn branchIn loadConditionTests leafed branched nodePut literalsOf loadVersionSetTests assignOn assignTests pushed cellValue cellSide cellLevel cellOf decisionAt levelAt levelOfLast entryAbove popped undoLastTests poppedTo cleared noStop undoUntilTests odd ofFields ofBits toBits size climb span onwardOf
 computed = (refl, refl)
 
 alone-say : each start alone ≡ map expected alone

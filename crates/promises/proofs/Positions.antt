@@ -7,7 +7,7 @@ use Prim.Native.Nat.{ℕ, _≤_, _<_}
 use borrow.Author.Tests.{le-leb}
 use lib.ListN.{length}
 use Rattle.clauses.proofs.Registers.{done-placed}
-use Rattle.clauses.specs.Register.{Placed, conditionWord, registerOut, registerStore, registerTests, registered}
+use Rattle.clauses.specs.Register.{Placed, conditionWord, registerTests, registered, registerRow}
 use Rattle.meaning.proofs.Records.{clause-none}
 use Rattle.meaning.specs.Standing.{envOf, ofClause, storeOf}
 use Rattle.meaning.specs.View.{literalsAt}
@@ -29,7 +29,7 @@ use Rattle.rules.specs.Store.{Store}
 use Rattle.rules.proofs.Choice.{lt-or}
 use Rattle.store.proofs.Rows.{judged-clear}
 use Rattle.store.specs.declared.Made.the-variants.{Done as MadeDone}
-use Rattle.store.specs.Row.{guarded}
+use Rattle.store.specs.Row.{guarded, answerAny, leftAny}
 use Rattle.store.specs.Area.{Area, at}
 use Rattle.store.specs.Fresh.{freshOut, freshStore, freshRow}
 use Rattle.store.specs.Layout.{clauseConditions, clauseCount, clauseIds, clauseParents, clauseRequirements, words}
@@ -71,7 +71,7 @@ module _ (w : List ℕ) (parent key condition clause : ℕ) (h : History) (g : G
       (register-position (storeOf w) h parent key literals clause f)
 
 register-follows : (w : List ℕ) (parent kind requirement condition clause : ℕ) (h : History) → Genuine w → Follows w h →
-    Follows (registerStore w parent kind requirement condition clause) (ifRegistered (registerOut w parent kind requirement condition) (filed h parent (keyAt kind requirement) (literalsAt w (conditionWord condition)) clause) h)
+    Follows (leftAny w (registerRow w parent kind requirement condition clause)) (ifRegistered (answerAny w (registerRow w parent kind requirement condition 0)) (filed h parent (keyAt kind requirement) (literalsAt w (conditionWord condition)) clause) h)
 register-follows w parent kind requirement condition clause h g f =
     let tests = registerTests w parent kind requirement condition in
     judged-both (λ s r. Follows s (ifRegistered r (filed h parent (keyAt kind requirement) (literalsAt w (conditionWord condition)) clause) h)) (λ n. w) Refused (guarded w tests) _ Done (λ n. f)

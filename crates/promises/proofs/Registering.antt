@@ -14,7 +14,7 @@ use Rattle.clauses.proofs.Ranking.{rank-most}
 use Rattle.clauses.proofs.ReadBack.{Shifted, shifted-each, parent-shifted, requirement-shifted, condition-shifted, id-shifted, mark-shifted, count-registered}
 use Rattle.clauses.proofs.Registers.{left-either}
 use Rattle.clauses.specs.Record.{parentAt, rankOf}
-use Rattle.clauses.specs.Register.{knownCondition, conditionWord, Placed, queuedMark, registered, registerInStore, registerStore}
+use Rattle.clauses.specs.Register.{knownCondition, conditionWord, Placed, queuedMark, registered, registerRow}
 use Rattle.meaning.proofs.Frames.{cachesRegion, lists-same, literals-same, cache-same, mirror-same, trail-same}
 use Rattle.meaning.proofs.Records.{clause-word, clause-none}
 use Rattle.meaning.specs.Standing.{markOf, ofClause, storeOf, trailOf}
@@ -33,6 +33,7 @@ use Rattle.store.specs.Limits.{lastLevel, lastWord, names}
 use Rattle.store.specs.Shape.{Sound, soundShape}
 use Rattle.tables.specs.Answer.{loaded}
 use Rattle.trail.specs.Assignment.{assigned}
+use Rattle.store.specs.Row.{leftSound, leftAny}
 
 -- the words' rank is the rules' rank
 ranks-agree : (w : List ℕ) (parent n k : ℕ) → k ≤ at clauseCount 0 w → behind (parentAt w) parent k n ≡ behind (ofClause clauseParents w) parent k n
@@ -176,14 +177,14 @@ module _ (w : List ℕ) (parent key condition clause : ℕ) (p : Placed w parent
 
 -- A CALL THAT REGISTERS keeps words genuine; a refusal leaves them as they are
 module _ (w : List ℕ) (parent kind requirement condition clause : ℕ) (g : Genuine w) where
-  inner-genuine : Genuine (registerInStore w parent kind requirement condition clause)
+  inner-genuine : Genuine (leftSound w (registerRow w parent kind requirement condition clause))
   inner-genuine =
       left-either w parent kind requirement condition clause Genuine
       (λ p. registered-genuine w parent (keyAt kind requirement) condition clause p (g .sound) g) g
 
-  pub register-genuine : Genuine (registerStore w parent kind requirement condition clause)
+  pub register-genuine : Genuine (leftAny w (registerRow w parent kind requirement condition clause))
   register-genuine = go (soundShape w)
     where
-      go : (b : Bool) → Genuine (cond (not b) w (registerInStore w parent kind requirement condition clause))
+      go : (b : Bool) → Genuine (cond (not b) w (leftSound w (registerRow w parent kind requirement condition clause)))
       go true = inner-genuine
       go false = g

@@ -19,7 +19,7 @@ use Rattle.promises.specs.Leaving.{Dies, dropsOf, examined, queueSize}
 use Rattle.promises.specs.Six.{SameButMode, undropped}
 use Rattle.proposal.proofs.Kept.{answer-along}
 use Rattle.proposal.proofs.Steps.{name-below}
-use Rattle.proposal.specs.Propose.{answer, proposalIn, proposalInStore, proposalNumber, proposalOut, proposalStore, told, unsynced}
+use Rattle.proposal.specs.Propose.{answer, proposalAnswer, proposalLeft, proposalNumber, told, unsynced, proposalRow}
 use Rattle.rules.proofs.Drops.{drops-of}
 use Rattle.rules.proofs.Leaving.{walk-dies, walk-leaves}
 use Rattle.rules.proofs.Modes.{modes}
@@ -38,7 +38,7 @@ use Rattle.store.specs.Limits.{names}
 use Rattle.store.specs.Shape.{Sound, soundShape}
 use Rattle.sync.proofs.Mirrored.{touches-are}
 use Rattle.sync.proofs.Standing.{sync-is}
-use Rattle.sync.specs.Sync.{syncOut, syncStore, touchedIn}
+use Rattle.sync.specs.Sync.{touchedIn, syncRow}
 use Rattle.proposal.specs.declared.Proposal.the-variants.{Nothing as NoneOpen, Dead as DeadAt, Refused}
 use Rattle.rules.specs.declared.Out.{Out}
 use Rattle.rules.specs.declared.Out.the-variants.{Nothing, Choose}
@@ -49,10 +49,11 @@ use Rattle.rules.specs.declared.Finding.the-variants.{Shut}
 use Rattle.rules.specs.declared.Out.the-variants as out
 use Rattle.rules.specs.declared.Finding.the-variants as finding
 use Rattle.meaning.proofs.Lists.{length-mirror, length-trail}
+use Rattle.store.specs.Row.{answerAny, leftAny}
 
 -- 7: "a proposal is asked of an unsynced store", exactly
 pub unsynced-exactly : (w : List ℕ) → soundShape w ≡ true → (numberOf w propose ≡ 7) ↔ (unsynced w ≡ true)
-unfolding proposalIn
+unfolding proposalAnswer
 unsynced-exactly w h = rw (← propose-told w, h) (go (unsynced w))
   where
     other : (o : Out) (d : ℕ) → proposalNumber (told w o d) ≢ 7
@@ -67,7 +68,7 @@ unsynced-exactly w h = rw (← propose-told w, h) (go (unsynced w))
 module _ (w : List ℕ) (r : ReachedWords w) where
   module _ (u : unsynced w ≡ false) where
     -- the proposal, drop count aside, is what the walk's answer tells
-    as-walked : (o : Out) → walk (envOf w) (assigned w) ≡ o → undropped (proposalOut w) ≡ undropped (told w o 0)
+    as-walked : (o : Out) → walk (envOf w) (assigned w) ≡ o → undropped (answerAny w (proposalRow w)) ≡ undropped (told w o 0)
     as-walked o e = rw (demand2 w r u, e) (aside o (answer w .drops))
       where
         aside : (p : Out) (d : ℕ) → undropped (told w p d) ≡ undropped (told w p 0)
@@ -76,7 +77,7 @@ module _ (w : List ℕ) (r : ReachedWords w) where
         aside (Choose b) d = refl
 
     -- "nothing is answered exactly when no clause is open"
-    pub nothing-exactly : (undropped (proposalOut w) ≡ NoneOpen 0) ↔ ((k : ℕ) → k < at clauseCount 0 w → look (envOf w) (assigned w) k ≡ Shut)
+    pub nothing-exactly : (undropped (answerAny w (proposalRow w)) ≡ NoneOpen 0) ↔ ((k : ℕ) → k < at clauseCount 0 w → look (envOf w) (assigned w) k ≡ Shut)
     nothing-exactly =
         (λ e. nothing-iff (envOf w) (assigned w) .0 (back (walk (envOf w) (assigned w)) (sym (as-walked _ refl) ∙ e)), λ h. as-walked Nothing (nothing-iff (envOf w) (assigned w) .1 h))
       where
@@ -89,7 +90,7 @@ module _ (w : List ℕ) (r : ReachedWords w) where
     dies clause = walk-dies (envOf w) (assigned w) clause
 
     -- "A dead clause examined is refusal 8", "its clause id comes too"
-    pub dead-exactly : (clause : ℕ) → (undropped (proposalOut w) ≡ DeadAt clause 0) ↔ Dies w clause
+    pub dead-exactly : (clause : ℕ) → (undropped (answerAny w (proposalRow w)) ≡ DeadAt clause 0) ↔ Dies w clause
     dead-exactly clause =
         (λ e. dies clause .0 (back (walk (envOf w) (assigned w)) (sym (as-walked _ refl) ∙ e)), λ d. as-walked (out.Dead clause) (dies clause .1 d))
       where
@@ -108,26 +109,26 @@ module _ (w : List ℕ) (r : ReachedWords w) where
         back (Choose b) q e = absurd (omega (arith, e))
 
     -- "A clause leaves the queue exactly when the walk examines it queued and finds it not open"; and none enters
-    pub leaves-exactly : (k : ℕ) → markOf (proposalStore w) k ≡ markOf w k && not (examined w k && notOpen (look (envOf w) (assigned w) k))
-    unfolding proposalInStore
+    pub leaves-exactly : (k : ℕ) → markOf (leftAny w (proposalRow w)) k ≡ markOf w k && not (examined w k && notOpen (look (envOf w) (assigned w) k))
+    unfolding proposalLeft
     leaves-exactly k =
         rw (reached-sound w r, u)
         (ap (λ (q : Queue). q .mark k) (answer-along w (reached-genuine w r .sound) .2 .0) ∙ walk-leaves (envOf w) (assigned w) (queueOf w) (reached-holds w r u) k)
 
   -- "touches are the mirror's length plus the trail's, less twice the floor"
-  pub touches-are-counted : syncOut w ≡ Touches (at mirrorLength 0 w + at trailLength 0 w - 2 * at syncFloor 0 w)
+  pub touches-are-counted : answerAny w (syncRow w) ≡ Touches (at mirrorLength 0 w + at trailLength 0 w - 2 * at syncFloor 0 w)
   touches-are-counted =
       let h = reached-genuine w r .sound in
       rw (reached-sound w r, touches-are w h, length-mirror w h, length-trail w)
 
   -- the touched variables, routed one after the other in any order and with any repeats, give the queue that sync leaves
-  pub sync-any-order : (touched : List ℕ) → ((v : ℕ) → member v touched ≡ member v (touchedIn w)) → queueOf (syncStore w) ≡ routes (envOf w) (assigned w) touched (queueOf w)
+  pub sync-any-order : (touched : List ℕ) → ((v : ℕ) → member v touched ≡ member v (touchedIn w)) → queueOf (leftAny w (syncRow w)) ≡ routes (envOf w) (assigned w) touched (queueOf w)
   sync-any-order touched same =
       rw (reached-sound w r) (sync-is w (reached-genuine w r .sound) ∙ sym (routes-same touched (touchedIn w) same (envOf w) (assigned w) (queueOf w)))
 
 -- "drops are the queue's size before less after", on any words
-pub drops-are-counted : (w : List ℕ) → queueSize w ≡ queueSize (proposalStore w) + dropsOf (proposalOut w)
-unfolding proposalIn proposalInStore
+pub drops-are-counted : (w : List ℕ) → queueSize w ≡ queueSize (leftAny w (proposalRow w)) + dropsOf (answerAny w (proposalRow w))
+unfolding proposalAnswer proposalLeft
 drops-are-counted w = go (soundShape w) (unsynced w) refl
   where
     dropped : (o : Out) (d : ℕ) → dropsOf (told w o d) ≡ d
@@ -174,5 +175,5 @@ module _ (w u : List ℕ) (r : ReachedWords w) (q : ReachedWords u) (same : Same
       go false true e = sym e
       go false false e = refl
 
-  pub modes-agree : unsynced w ≡ false → unsynced u ≡ false → undropped (proposalOut w) ≡ undropped (proposalOut u)
+  pub modes-agree : unsynced w ≡ false → unsynced u ≡ false → undropped (answerAny w (proposalRow w)) ≡ undropped (answerAny u (proposalRow u))
   modes-agree x y = one-proposal w u r q x y same (any-mode ((envOf w) .standard) ((envOf u) .standard))

@@ -10,12 +10,13 @@ use Rattle.meaning.specs.Standing.{envOf, storeOf}
 use Rattle.promises.proofs.Genuine.{Genuine, mapped-frame, all-loaded-same}
 use Rattle.rules.specs.Store.{Reached, then, tuned, tunes}
 use Rattle.settings.proofs.Kept.{activity-outside, activity-sound, hot-outside, hot-sound, mode-outside, mode-sound}
-use Rattle.settings.specs.Settings.{activityInStore, activityStore, hotInStore, hotStore, modeInStore, modeStore}
 use Rattle.store.proofs.AreaLaws.{at-same}
 use Rattle.rules.proofs.Choice.{cond-either}
 use Rattle.store.specs.Area.{Area, apart, area}
 use Rattle.store.specs.Layout.{clausesRegion, mirrorRegion, queueRegion, settingsRegion, syncFloor, tablesRegion, trailRegion}
 use Rattle.store.specs.Shape.{Sound, soundShape}
+use Rattle.settings.specs.Settings.{activityRow, hotRow, modeRow}
+use Rattle.store.specs.Row.{leftSound, leftAny}
 
 -- A CALL THAT WRITES THE SETTINGS' REGION ALONE leaves words that differ in activities, hot names and mode
 module _ (s w : List ℕ) (out : (a : Area) → T (apart a settingsRegion) → area a s ≡ area a w) where
@@ -41,13 +42,13 @@ module _ (s w : List ℕ) (out : (a : Area) → T (apart a settingsRegion) → a
 
 -- THE THREE CALLS
 module _ (w : List ℕ) (g : Genuine w) where
-  pub mark-hot-genuine : (name : ℕ) → Genuine (hotStore w name)
-  mark-hot-genuine name = cond-either Genuine (not (soundShape w)) w (hotInStore w name) (λ e. g) (λ e. tuned-genuine (hotInStore w name) w (λ a t. hot-outside w a t name) (hot-sound w (g .sound) name) g)
+  pub mark-hot-genuine : (name : ℕ) → Genuine (leftAny w (hotRow w name))
+  mark-hot-genuine name = cond-either Genuine (not (soundShape w)) w (leftSound w (hotRow w name)) (λ e. g) (λ e. tuned-genuine (leftSound w (hotRow w name)) w (λ a t. hot-outside w a t name) (hot-sound w (g .sound) name) g)
 
   -- a float parameter always fits its format
-  pub set-activity-genuine : (name : ℕ) (x : Float) → T (fits binary32 x) → Genuine (activityStore w name x)
+  pub set-activity-genuine : (name : ℕ) (x : Float) → T (fits binary32 x) → Genuine (leftAny w (activityRow w name x))
   set-activity-genuine name x f =
-      cond-either Genuine (not (soundShape w)) w (activityInStore w name x) (λ e. g) (λ e. tuned-genuine (activityInStore w name x) w (λ a t. activity-outside w a t name x f) (activity-sound w (g .sound) name x f) g)
+      cond-either Genuine (not (soundShape w)) w (leftSound w (activityRow w name x)) (λ e. g) (λ e. tuned-genuine (leftSound w (activityRow w name x)) w (λ a t. activity-outside w a t name x f) (activity-sound w (g .sound) name x f) g)
 
-  pub set-mode-genuine : (m : ℕ) → Genuine (modeStore w m)
-  set-mode-genuine m = cond-either Genuine (not (soundShape w)) w (modeInStore w m) (λ e. g) (λ e. tuned-genuine (modeInStore w m) w (λ a t. mode-outside w a t m) (mode-sound w (g .sound) m) g)
+  pub set-mode-genuine : (m : ℕ) → Genuine (leftAny w (modeRow w m))
+  set-mode-genuine m = cond-either Genuine (not (soundShape w)) w (leftSound w (modeRow w m)) (λ e. g) (λ e. tuned-genuine (leftSound w (modeRow w m)) w (λ a t. mode-outside w a t m) (mode-sound w (g .sound) m) g)

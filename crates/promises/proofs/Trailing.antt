@@ -22,14 +22,15 @@ use Rattle.store.specs.Shape.{Sound}
 use Rattle.trail.proofs.Assigning.{Fitting}
 use Rattle.trail.proofs.Kept.{assign-either, assign-public, cleared-count, cleared-floor, cleared-map, cleared-outside, cleared-sound, moved-sound, next-either, next-public, popped-floor, popped-outside, popped-sound, pushed-count, pushed-kept, pushed-outside, pushed-sound, undo-last-either, undo-last-public, undo-until-either, undo-until-public}
 use Rattle.trail.proofs.Popping.{entered, popped-count, popped-kept}
-use Rattle.trail.specs.Assign.{assignStore, pushed}
+use Rattle.trail.specs.Assign.{pushed, assignRow}
 use Rattle.trail.specs.Cell.{cellOf, cellSide, cellValue}
 use Rattle.trail.specs.Entries.{Entered, entries}
-use Rattle.trail.specs.Next.{nextStore}
-use Rattle.trail.specs.UndoLast.{popped, undoLastStore}
-use Rattle.trail.specs.UndoUntil.{cleared, undoUntilStore}
+use Rattle.trail.specs.UndoLast.{popped, undoLastRow}
+use Rattle.trail.specs.UndoUntil.{cleared, undoUntilRow}
 use Rattle.rules.specs.declared.Value.the-variants.{False, True, Undecided}
 use Rattle.trail.specs.Assignment.{assigned}
+use Rattle.trail.specs.Next.{nextRow}
+use Rattle.store.specs.Row.{leftAny}
 
 -- a store with another trail and floor
 abbrev trailed : Store → List Entry → ℕ → Store
@@ -134,7 +135,7 @@ module _ (w : List ℕ) (variable value level clause : ℕ) (f : Fitting w varia
       g
 
 -- for all arguments: a refusal and "already" leave the words
-pub assign-genuine : (w : List ℕ) (variable value level clause : ℕ) → Genuine w → Genuine (assignStore w variable value level clause)
+pub assign-genuine : (w : List ℕ) (variable value level clause : ℕ) → Genuine w → Genuine (leftAny w (assignRow w variable value level clause))
 assign-genuine w variable value level clause g =
     rw (assign-public w (g .sound) variable value level clause .1)
     (assign-either Genuine w g variable value level clause (λ f. pushed-genuine w variable value level clause f g))
@@ -180,10 +181,10 @@ module _ (w : List ℕ) (g : Genuine w) where
       trailed-genuine (cleared w) w (cleared-outside w h) [] (min (at syncFloor 0 w) 0) (trail-none (cleared w) (cleared-count w h))
       (cleared-floor w h ∙ omega arith) (undo 0) (cleared-sound w h) (mapped-none (cleared w) (cleared-count w h) (cleared-map w h)) g
 
-pub undo-last-genuine : (w : List ℕ) → Genuine w → Genuine (undoLastStore w)
+pub undo-last-genuine : (w : List ℕ) → Genuine w → Genuine (leftAny w (undoLastRow w))
 undo-last-genuine w g = rw (undo-last-public w (g .sound) .1) (undo-last-either Genuine w g (λ l. popped-genuine w g (omega arith)))
 
-pub undo-until-genuine : (w : List ℕ) (level : ℕ) → Genuine w → Genuine (undoUntilStore w level)
+pub undo-until-genuine : (w : List ℕ) (level : ℕ) → Genuine w → Genuine (leftAny w (undoUntilRow w level))
 undo-until-genuine w level g =
     rw (undo-until-public w (g .sound) level .1)
     (undo-until-either Genuine w g level (g .sound) (cleared-genuine w g) (λ s h some k. popped-genuine s k some))
@@ -203,6 +204,6 @@ module _ (w : List ℕ) (x : ℕ) (g : Genuine w) where
       (moved-kept syncFloor 0 tt) same h
       (mapped-same moved w (assigned-same moved w (area-kept map propagated 0 x w tt (omega arith))) e (g .mapped)) g
 
-pub next-genuine : (w : List ℕ) → Genuine w → Genuine (nextStore w)
+pub next-genuine : (w : List ℕ) → Genuine w → Genuine (leftAny w (nextRow w))
 next-genuine w g =
     rw (next-public w (g .sound) .1) (next-either Genuine w g (λ l. moved-genuine w (at propagated 0 w + 1) g (moved-sound w (g .sound) l)))

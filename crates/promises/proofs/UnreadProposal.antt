@@ -9,7 +9,7 @@ use Rattle.meaning.specs.View.{listsAt}
 use Rattle.examine.specs.Cache.{cacheWrites, cached, clauseKey, filled, refreshed, saved, findingAt, wordOperations}
 use Rattle.imbolaverk.specs.Calls.{numberOf, propose, valuesOf}
 use Rattle.promises.proofs.UnreadWords.{Alike, area-alike, at-alike, either-alike, put-alike, puts-alike, sound-alike}
-use Rattle.proposal.specs.Propose.{answer, proposalIn, proposalInStore, proposalStore, told, unsynced}
+use Rattle.proposal.specs.Propose.{answer, proposalAnswer, proposalLeft, told, unsynced, proposalRow}
 use Rattle.rules.proofs.Following.{Follows, both-walk}
 use Rattle.rules.specs.Walk.{Environment, active, evaluate}
 use Rattle.rules.specs.Queue.{Answer, queuedWalk}
@@ -25,6 +25,7 @@ use Rattle.rules.specs.declared.Out.the-variants.{Nothing, Choose}
 use Rattle.trail.specs.Assignment.{assigned}
 use Rattle.rules.specs.declared.State.the-variants as state
 use Rattle.rules.specs.declared.Out.the-variants as out
+use Rattle.store.specs.Row.{leftAny}
 
 -- a cache that is filled
 saved-alike : (key : ℕ) (t : State) (w u : List ℕ) → Alike w u → Alike (saved w key t) (saved u key t)
@@ -107,8 +108,8 @@ module _ (w u : List ℕ) (e : Alike w u) where
   unfolding unsynced
   unsynced-alike = simp (at-alike w u e)
 
-  told-so : proposalIn w ≡ proposalIn u
-  unfolding proposalIn
+  told-so : proposalAnswer w ≡ proposalAnswer u
+  unfolding proposalAnswer
   told-so =
       rw (walk-alike .0, walk-alike .1)
       (told-alike w u (answer u .out) (answer u .drops) (ap (λ (v : Environment). v .parent) (env-alike w u e)) (ap (λ (v : Environment). v .clauseId) (env-alike w u e)))
@@ -116,8 +117,8 @@ module _ (w u : List ℕ) (e : Alike w u) where
   pub proposal-answers : (numberOf w propose ≡ numberOf u propose) × (valuesOf w propose ≡ valuesOf u propose)
   proposal-answers = (simp (sound-alike w u e, unsynced-alike, told-so), simp (sound-alike w u e, unsynced-alike, told-so))
 
-  pub proposal-left : Alike (proposalStore w) (proposalStore u)
-  unfolding proposalInStore
+  pub proposal-left : Alike (leftAny w (proposalRow w)) (leftAny u (proposalRow u))
+  unfolding proposalLeft
   proposal-left =
       rw (sound-alike w u e, unsynced-alike)
       (either-alike (not (soundShape u)) w u _ _ e (either-alike (unsynced u) w u _ _ e (walk-alike .2)))

@@ -7,7 +7,7 @@ use borrow.Author.Tests.{ltb-false}
 use lib.Dec.{ltb}
 use Rattle.meaning.specs.Standing.{envOf, queueOf, storeOf}
 use Rattle.proposal.proofs.Kept.{answer-along}
-use Rattle.proposal.specs.Propose.{answer, proposalIn, told, unsynced}
+use Rattle.proposal.specs.Propose.{answer, proposalAnswer, told, unsynced}
 use Rattle.rules.proofs.Same.{same-walk}
 use Rattle.rules.specs.Invariant.{Holds}
 use Rattle.rules.specs.Store.{Synced}
@@ -22,8 +22,8 @@ use Rattle.meaning.proofs.Lists.{length-mirror, length-trail}
 
 module _ (w : List ℕ) (h : Sound w) (q : Holds (envOf w) (assigned w) [] (queueOf w)) where
   -- where the queue is right for the assignment, the answer is the walk over every clause: the words answer as the queue, the queue as the walk
-  pub proposal-is : proposalIn w ≡ told w (walk (envOf w) (assigned w)) (answer w .drops)
-  unfolding proposalIn
+  pub proposal-is : proposalAnswer w ≡ told w (walk (envOf w) (assigned w)) (answer w .drops)
+  unfolding proposalAnswer
   proposal-is = ap (λ (o : Out). told w o (answer w .drops)) (answer-along w h .0 ∙ same-walk (envOf w) (assigned w) (queueOf w) q .0)
 
 -- what is not refused by number 7 is synced, in the words' store too

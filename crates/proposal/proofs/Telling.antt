@@ -13,7 +13,7 @@ use Rattle.examine.proofs.Stand.{Beside, at-beside, clause-beside}
 use Rattle.meaning.proofs.Records.{clause-inside, clause-word}
 use Rattle.meaning.specs.Standing.{ofClause}
 use Rattle.proposal.proofs.Kept.{answer-beside}
-use Rattle.proposal.specs.Propose.{answer, ended, proposalIn, proposalInStore, told}
+use Rattle.proposal.specs.Propose.{answer, ended, proposalAnswer, proposalLeft, told}
 use Rattle.proposal.specs.Turn.{Fine}
 use Rattle.rules.proofs.FloatOrder.{no-nan-bits}
 use Rattle.rules.specs.Activity.{lastActivity}
@@ -30,26 +30,26 @@ use Rattle.proposal.specs.declared.Proposal.the-variants as proposal
 use Rattle.proposal.specs.declared.decide_queue.Walked.{Walked}
 
 module _ (w s : List ℕ) (r : Walked) (ok : Sound w) (e : ended r s ≡ answer w) where
-  left-told : s ≡ proposalInStore w
-  unfolding proposalInStore
+  left-told : s ≡ proposalLeft w
+  unfolding proposalLeft
   left-told = ap (λ (x : Answer (List ℕ)). x .left) e
 
-  told-is : (o : Out) → r .out ≡ o → told w o (r .drops) ≡ proposalIn w
-  unfolding proposalIn
+  told-is : (o : Out) → r .out ≡ o → told w o (r .drops) ≡ proposalAnswer w
+  unfolding proposalAnswer
   told-is o h = sym (ap (λ (o : Out). told w o (r .drops)) h) ∙ ap (λ (x : Answer (List ℕ)). told w (x .out) (x .drops)) e
 
   walked-beside : Beside s w
-  unfolding proposalInStore
+  unfolding proposalLeft
   walked-beside = rw left-told (answer-beside w ok)
 
-  pub told-nothing : r .out ≡ Nothing → (NoneOpen (r .drops) ≡ proposalIn w) × (s ≡ proposalInStore w)
+  pub told-nothing : r .out ≡ Nothing → (NoneOpen (r .drops) ≡ proposalAnswer w) × (s ≡ proposalLeft w)
   told-nothing h = (told-is Nothing h, left-told)
 
-  pub told-dead : (c : ℕ) → r .out ≡ out.Dead c → (proposal.Dead c (r .drops) ≡ proposalIn w) × (s ≡ proposalInStore w)
+  pub told-dead : (c : ℕ) → r .out ≡ out.Dead c → (proposal.Dead c (r .drops) ≡ proposalAnswer w) × (s ≡ proposalLeft w)
   told-dead c h = (told-is (out.Dead c) h, left-told)
 
   pub told-choose : (b : Best) (k : ℕ) (clause : Clause) → r .out ≡ Choose b → Fine w b → k ≡ b .clause → clause ≡ clauseAt s k →
-      (Chosen (b .candidate) (clause .parent) (clause .id) (ofBits binary32 (b .activity)) (b .count) (r .drops) ≡ proposalIn w) × (s ≡ proposalInStore w)
+      (Chosen (b .candidate) (clause .parent) (clause .id) (ofBits binary32 (b .activity)) (b .count) (r .drops) ≡ proposalAnswer w) × (s ≡ proposalLeft w)
   unfolding clauseAt
   told-choose b k clause h f i x =
       let parent : clause .parent ≡ ofClause clauseParents w (b .clause) = ap (λ (c : Clause). c .parent) x ∙ at-beside s w walked-beside clauseParents tt k ∙ rw (i, clause-word clauseParents w (b .clause) (f .clause<)) in

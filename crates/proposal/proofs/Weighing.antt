@@ -86,8 +86,8 @@ module _ (w s : List ℕ) (n k : ℕ) (b : Best) (d : ℕ) (whole : Answer (List
   module _ (m : markOf s k ≡ true) (u : List ℕ) (q : u ≡ weighed s b k) where
     -- by the walk's own tests
     module _ {P : Type 0} (enough : stops (envOf w) b ≡ true → u ≡ s → weighOf s b k ≡ Enough → P)
-      (passed : stops (envOf w) b ≡ false → passedOver (envOf w) b k ≡ true → u ≡ s → weighOf s b k ≡ On b 0 → P)
-      (looked : examines (envOf w) (Choose b) k ≡ true → u ≡ examined s k → weighOf s b k ≡ weighBy false false (findingAt s k) b (λ x i c. better (envOf w .rule) b (best (envOf w) k x i c)) → P) where
+        (passed : stops (envOf w) b ≡ false → passedOver (envOf w) b k ≡ true → u ≡ s → weighOf s b k ≡ On b 0 → P)
+        (looked : examines (envOf w) (Choose b) k ≡ true → u ≡ examined s k → weighOf s b k ≡ weighBy false false (findingAt s k) b (λ x i c. better (envOf w .rule) b (best (envOf w) k x i c)) → P) where
       weigh-cases : P
       weigh-cases = go (stops (envOf w) b) (passedOver (envOf w) b k) refl refl
         where

@@ -16,7 +16,7 @@ use Rattle.store.specs.Layout.{clauseCount, clauseIds, clauseParents, mirrorLen
 use Rattle.trail.specs.Assignment.{floorOf}
 use Rattle.trail.specs.Entries.{entries}
 use Rattle.store.specs.Refusals.{deadClause, notSynced}
-use Rattle.store.specs.Row.{Row, Test, _if_, answerIn, answerOn, leftIn, leftOn}
+use Rattle.store.specs.Row.{Row, Test, _if_, answerSound, answerAny, leftSound, leftAny}
 use Rattle.rules.specs.declared.Best.{Best}
 use Rattle.rules.specs.declared.Out.{Out}
 use Rattle.rules.specs.declared.Out.the-variants.{Nothing, Choose}
@@ -73,12 +73,12 @@ Numbered (proposal.Dead clause dropped) = Unit {0}
 Numbered (Refused n) = Unit {0}
 
 -- on a store of sound shape
-unfoldable pub proposalIn : List ℕ → Proposal
-proposalIn w = told w (answer w .out) (answer w .drops)
+unfoldable pub proposalAnswer : List ℕ → Proposal
+proposalAnswer w = told w (answer w .out) (answer w .drops)
 
 -- and the words that it leaves
-unfoldable pub proposalInStore : List ℕ → List ℕ
-proposalInStore w = answer w .left
+unfoldable pub proposalLeft : List ℕ → List ℕ
+proposalLeft w = answer w .left
 
 -- "Unsynced means: the floor is below the mirror's length, or the trail is longer than the mirror"
 unfoldable pub unsynced : List ℕ → Bool
@@ -86,14 +86,7 @@ unsynced w = ltb (floorOf w) (at mirrorLength 0 w) || ltb (at mirrorLength 0 w) 
 
 -- the call; 7: "a proposal is asked of an unsynced store"
 abbrev pub proposalRow : List ℕ → Row Proposal
-proposalRow w = record { refused = Refused; tests = notSynced if unsynced w ∷ []; answer = proposalIn w; left = proposalInStore w }
-
--- on any words
-abbrev pub proposalOut : List ℕ → Proposal
-proposalOut w = answerOn w (proposalRow w)
-
-abbrev pub proposalStore : List ℕ → List ℕ
-proposalStore w = leftOn w (proposalRow w)
+proposalRow w = record { refused = Refused; tests = notSynced if unsynced w ∷ []; answer = proposalAnswer w; left = proposalLeft w }
 
 -- whether the walk ended at a dead clause
 abbrev pub isDead : Proposal → Bool

@@ -14,7 +14,7 @@ ghost use Rattle.rules.specs.Walk.{anyHot, narrow};
 ghost use Rattle.meaning.specs.Standing.{envOf, markOf};
 ghost use Rattle.meaning.specs.View.{listAt};
 ghost use Rattle.proposal.specs.Turn.{hotAt, coldAt, shieldedAt, passedAt, largestAt, topAt, stopsAt, bestAt, weighOf, weighed, Fine, nextQueued};
-ghost use Rattle.proposal.specs.Propose.{choosing, dying, fromRank, answer, ended, Sane, Numbered, proposalIn, proposalInStore};
+ghost use Rattle.proposal.specs.Propose.{choosing, dying, fromRank, answer, ended, Sane, Numbered, proposalAnswer, proposalLeft};
 use crate::Proposal;
 use clauses::records;
 use examine::examination;
@@ -293,7 +293,7 @@ fn walk(s: &mut [u32]) -> Walked
 // The proposal of a synced store of sound shape.
 pub fn propose(s: &mut [u32]) -> Proposal
     requires { ⌜ Sound (now s) ⌝ }
-    ensures { λ r. ⌜ (r ≡ proposalIn (now (s .entry))) × (now (s .exit) ≡ proposalInStore (now (s .entry))) × (Numbered r) ⌝ }
+    ensures { λ r. ⌜ (r ≡ proposalAnswer (now (s .entry))) × (now (s .exit) ≡ proposalLeft (now (s .entry))) × (Numbered r) ⌝ }
 {
     let r = walk(s);
     let out = r.out;

@@ -3,7 +3,8 @@ ghost use mathlib.Core.Path.{_≡_};
 ghost use Prim.Native.Nat.{_≤_};
 ghost use lib.ListN.{length};
 ghost use Rattle.store.specs.Layout.{words};
-ghost use Rattle.proposal.specs.Propose.{Numbered, unsynced, proposalOut, proposalStore};
+ghost use Rattle.proposal.specs.Propose.{Numbered, unsynced, proposalRow};
+ghost use Rattle.store.specs.Row.{answerAny, leftAny};
 use store::read;
 use store::refusals;
 use store::shape;
@@ -46,7 +47,7 @@ fn is_unsynced(s: &[u32]) -> bool
 
 // Proposes the candidate to decide next.
 pub fn propose(s: &mut [u32]) -> Proposal
-    ensures { λ r. ⌜ (r ≡ proposalOut (now (s .entry))) × (now (s .exit) ≡ proposalStore (now (s .entry))) × (Numbered r) ⌝ }
+    ensures { λ r. ⌜ (r ≡ answerAny (now (s .entry)) (proposalRow (now (s .entry)))) × (now (s .exit) ≡ leftAny (now (s .entry)) (proposalRow (now (s .entry)))) × (Numbered r) ⌝ }
 {
     if shape::sound(s) {
         if is_unsynced(s) {

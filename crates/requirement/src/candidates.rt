@@ -9,11 +9,12 @@ ghost use Rattle.store.specs.Layout.{words, listStarts, listLengths};
 ghost use Rattle.store.specs.Lent.{lengthsOf, joined};
 ghost use Rattle.store.specs.Limits.{versionSets, requirements, lists, cellRoom};
 ghost use Rattle.store.specs.Shape.{lies, Sound};
-ghost use Rattle.requirement.specs.Copy.{tabled, copyIn, copyInLengths, copyInCells};
-ghost use Rattle.requirement.specs.Load.{adds, total, known, fitting, Roomy, loadIn, putLists, tableAt, loadedSingle, loadedUnion, loaded, loadInStore};
+ghost use Rattle.requirement.specs.Copy.{tabled, copySoundLengths, copySoundCells, copyRow};
+ghost use Rattle.requirement.specs.Load.{adds, total, known, fitting, Roomy, putLists, tableAt, loadedSingle, loadedUnion, loaded, loadRow};
 ghost use Rattle.requirement.specs.Part.{inPart, partOf, Named, singleArea, unionArea, areaFrom, areaTo, placeOf};
 ghost use Rattle.requirement.specs.Tables.{requirementOf, keyOf, keyAt, firstSlot, setCount, setOf, nameOf, listCount, cellsOf};
 ghost use Rattle.rules.specs.Numbers.{from};
+ghost use Rattle.store.specs.Row.{answerSound, leftSound};
 use crate::Copied;
 use crate::Loaded;
 use crate::Requirement;
@@ -148,7 +149,7 @@ fn is_fitting(s: &[u32], kind: u32, id: u32, lengths: &[u32], cells: &[u32]) -> 
 // What loading would answer.
 fn load_case(s: &[u32], kind: u32, id: u32, lengths: &[u32], cells: &[u32]) -> Loaded
     requires { ⌜ Sound (now s) ⌝ }
-    ensures { λ r. ⌜ r ≡ loadIn (now (s .entry)) kind id (now (lengths .entry)) (now (cells .entry)) ⌝ }
+    ensures { λ r. ⌜ r ≡ answerSound (loadRow (now (s .entry)) kind id (now (lengths .entry)) (now (cells .entry))) ⌝ }
 {
     if is_fitting(s, kind, id, lengths, cells) {} else {
         return Loaded::Refused(refusals::BAD_ID);
@@ -228,7 +229,7 @@ fn load(s: &mut [u32], kind: u32, id: u32, lengths: &[u32], cells: &[u32])
 
 pub fn load_candidates(s: &mut [u32], kind: u32, id: u32, lengths: &[u32], cells: &[u32]) -> Loaded
     requires { ⌜ Sound (now s) ⌝ }
-    ensures { λ r. ⌜ (r ≡ loadIn (now (s .entry)) kind id (now (lengths .entry)) (now (cells .entry))) × (now (s .exit) ≡ loadInStore (now (s .entry)) kind id (now (lengths .entry)) (now (cells .entry))) ⌝ }
+    ensures { λ r. ⌜ (r ≡ answerSound (loadRow (now (s .entry)) kind id (now (lengths .entry)) (now (cells .entry)))) × (now (s .exit) ≡ leftSound (now (s .entry)) (loadRow (now (s .entry)) kind id (now (lengths .entry)) (now (cells .entry)))) ⌝ }
 {
     let r = load_case(s, kind, id, lengths, cells);
     match r {
@@ -379,7 +380,7 @@ fn copy_cells(s: &[u32], r: Requirement, n: usize, cells: &mut [u32])
 // What copying into lent lists of n and m places would answer.
 fn copy_case(s: &[u32], kind: u32, id: u32, n: usize, m: usize) -> Copied
     requires { ⌜ Sound (now s) ⌝ }
-    ensures { λ r. ⌜ r ≡ copyIn (now (s .entry)) kind id n m ⌝ }
+    ensures { λ r. ⌜ r ≡ answerSound (copyRow (now (s .entry)) kind id n m) ⌝ }
 {
     if is_tabled(s, kind, id) {} else {
         return Copied::Refused(refusals::BAD_ID);
@@ -407,7 +408,7 @@ pub fn copy_candidates(
     cells: &mut [u32],
 ) -> Copied
     requires { ⌜ Sound (now s) ⌝ }
-    ensures { λ r. ⌜ (r ≡ copyIn (now (s .entry)) kind id (length (now (lengths .entry))) (length (now (cells .entry)))) × (now (lengths .exit) ≡ copyInLengths (now (s .entry)) kind id (now (lengths .entry)) (now (cells .entry))) × (now (cells .exit) ≡ copyInCells (now (s .entry)) kind id (now (lengths .entry)) (now (cells .entry))) ⌝ }
+    ensures { λ r. ⌜ (r ≡ answerSound (copyRow (now (s .entry)) kind id (length (now (lengths .entry))) (length (now (cells .entry))))) × (now (lengths .exit) ≡ copySoundLengths (now (s .entry)) kind id (now (lengths .entry)) (now (cells .entry))) × (now (cells .exit) ≡ copySoundCells (now (s .entry)) kind id (now (lengths .entry)) (now (cells .entry))) ⌝ }
 {
     let answer = copy_case(s, kind, id, lengths.len(), cells.len());
     match answer {

@@ -1,7 +1,9 @@
 // Requirements and their candidate tables. Each public call tests the store's shape first.
 ghost use mathlib.Core.Path.{_≡_};
-ghost use Rattle.requirement.specs.Copy.{copyOut, copyLengths, copyCells};
-ghost use Rattle.requirement.specs.Load.{loadOut, loadStore};
+ghost use Rattle.requirement.specs.Copy.{copyLengths, copyCells, copyRow};
+ghost use Rattle.requirement.specs.Load.{loadRow};
+ghost use Rattle.store.specs.Row.{answerAny, leftAny};
+ghost use lib.ListN.{length};
 use store::refusals;
 use store::shape;
 
@@ -26,7 +28,7 @@ pub enum Copied {
 
 // Takes the candidate lists of a requirement into the store, once: list j is the next lengths[j] cells.
 pub fn load_candidates(s: &mut [u32], kind: u32, id: u32, lengths: &[u32], cells: &[u32]) -> Loaded
-    ensures { λ r. ⌜ (r ≡ loadOut (now (s .entry)) kind id (now (lengths .entry)) (now (cells .entry))) × (now (s .exit) ≡ loadStore (now (s .entry)) kind id (now (lengths .entry)) (now (cells .entry))) ⌝ }
+    ensures { λ r. ⌜ (r ≡ answerAny (now (s .entry)) (loadRow (now (s .entry)) kind id (now (lengths .entry)) (now (cells .entry)))) × (now (s .exit) ≡ leftAny (now (s .entry)) (loadRow (now (s .entry)) kind id (now (lengths .entry)) (now (cells .entry)))) ⌝ }
 {
     if shape::sound(s) {
         return candidates::load_candidates(s, kind, id, lengths, cells);
@@ -42,7 +44,7 @@ pub fn copy_candidates(
     lengths: &mut [u32],
     cells: &mut [u32],
 ) -> Copied
-    ensures { λ r. ⌜ (r ≡ copyOut (now (s .entry)) kind id (now (lengths .entry)) (now (cells .entry))) × (now (lengths .exit) ≡ copyLengths (now (s .entry)) kind id (now (lengths .entry)) (now (cells .entry))) × (now (cells .exit) ≡ copyCells (now (s .entry)) kind id (now (lengths .entry)) (now (cells .entry))) ⌝ }
+    ensures { λ r. ⌜ (r ≡ answerAny (now (s .entry)) (copyRow (now (s .entry)) kind id (length (now (lengths .entry))) (length (now (cells .entry))))) × (now (lengths .exit) ≡ copyLengths (now (s .entry)) kind id (now (lengths .entry)) (now (cells .entry))) × (now (cells .exit) ≡ copyCells (now (s .entry)) kind id (now (lengths .entry)) (now (cells .entry))) ⌝ }
 {
     if shape::sound(s) {
         return candidates::copy_candidates(s, kind, id, lengths, cells);

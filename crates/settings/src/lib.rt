@@ -1,6 +1,7 @@
 // The settings of a store: each name's activity and whether it is hot, and the mode.
 ghost use mathlib.Core.Path.{_≡_};
-ghost use Rattle.settings.specs.Settings.{hotOut, hotStore, activityOut, activityStore, modeOut, modeStore, modeNow, nameNow};
+ghost use Rattle.settings.specs.Settings.{activityRow, hotRow, modeNowRow, modeRow, nameRow};
+ghost use Rattle.store.specs.Row.{answerAny, leftAny};
 use store::refusals;
 use store::shape;
 
@@ -26,7 +27,7 @@ pub enum Name {
 
 // Makes a name hot, for good.
 pub fn mark_hot(s: &mut [u32], name: u32) -> Tuned
-    ensures { λ r. ⌜ (r ≡ hotOut (now (s .entry)) name) × (now (s .exit) ≡ hotStore (now (s .entry)) name) ⌝ }
+    ensures { λ r. ⌜ (r ≡ answerAny (now (s .entry)) (hotRow (now (s .entry)) name)) × (now (s .exit) ≡ leftAny (now (s .entry)) (hotRow (now (s .entry)) name)) ⌝ }
 {
     if shape::sound(s) {
         return tuning::mark_hot(s, name);
@@ -36,7 +37,7 @@ pub fn mark_hot(s: &mut [u32], name: u32) -> Tuned
 
 // Gives a name an activity.
 pub fn set_activity(s: &mut [u32], name: u32, activity: f32) -> Tuned
-    ensures { λ r. ⌜ (r ≡ activityOut (now (s .entry)) name activity) × (now (s .exit) ≡ activityStore (now (s .entry)) name activity) ⌝ }
+    ensures { λ r. ⌜ (r ≡ answerAny (now (s .entry)) (activityRow (now (s .entry)) name activity)) × (now (s .exit) ≡ leftAny (now (s .entry)) (activityRow (now (s .entry)) name activity)) ⌝ }
 {
     if shape::sound(s) {
         return tuning::set_activity(s, name, activity);
@@ -46,7 +47,7 @@ pub fn set_activity(s: &mut [u32], name: u32, activity: f32) -> Tuned
 
 // Sets the mode: 1 standard, 0 not.
 pub fn set_mode(s: &mut [u32], mode: u32) -> Tuned
-    ensures { λ r. ⌜ (r ≡ modeOut (now (s .entry)) mode) × (now (s .exit) ≡ modeStore (now (s .entry)) mode) ⌝ }
+    ensures { λ r. ⌜ (r ≡ answerAny (now (s .entry)) (modeRow (now (s .entry)) mode)) × (now (s .exit) ≡ leftAny (now (s .entry)) (modeRow (now (s .entry)) mode)) ⌝ }
 {
     if shape::sound(s) {
         return tuning::set_mode(s, mode);
@@ -56,7 +57,7 @@ pub fn set_mode(s: &mut [u32], mode: u32) -> Tuned
 
 // The mode.
 pub fn mode_of(s: &[u32]) -> Mode
-    ensures { λ r. ⌜ r ≡ modeNow (now (s .entry)) ⌝ }
+    ensures { λ r. ⌜ r ≡ answerAny (now (s .entry)) (modeNowRow (now (s .entry))) ⌝ }
 {
     if shape::sound(s) {
         return Mode::Is(store::read::mode(s));
@@ -66,7 +67,7 @@ pub fn mode_of(s: &[u32]) -> Mode
 
 // A name's activity and whether it is hot.
 pub fn name_of(s: &[u32], name: u32) -> Name
-    ensures { λ r. ⌜ r ≡ nameNow (now (s .entry)) name ⌝ }
+    ensures { λ r. ⌜ r ≡ answerAny (now (s .entry)) (nameRow (now (s .entry)) name) ⌝ }
 {
     if shape::sound(s) {
         return tuning::name_of(s, name);

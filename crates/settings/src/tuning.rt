@@ -6,7 +6,8 @@ ghost use Rattle.store.specs.Layout.{words};
 ghost use Rattle.store.specs.Limits.{names};
 ghost use Rattle.rules.specs.Numbers.{allFrom};
 ghost use Rattle.store.specs.Shape.{Sound};
-ghost use Rattle.settings.specs.Settings.{activityWith, quiet, hotIn, hotInStore, activityIn, activityInStore, activityOn, activityOnStore, modeIn, modeInStore, nameIn};
+ghost use Rattle.settings.specs.Settings.{activityWith, quiet, activityOn, activityOnStore, activityRow, hotRow, modeRow, nameRow};
+ghost use Rattle.store.specs.Row.{answerSound, leftSound};
 use crate::Name;
 use crate::Tuned;
 use rules::activity;
@@ -20,7 +21,7 @@ use store::write;
 
 pub fn mark_hot(s: &mut [u32], name: u32) -> Tuned
     requires { ⌜ Sound (now s) ⌝ }
-    ensures { λ r. ⌜ (r ≡ hotIn (now (s .entry)) name) × (now (s .exit) ≡ hotInStore (now (s .entry)) name) ⌝ }
+    ensures { λ r. ⌜ (r ≡ answerSound (hotRow (now (s .entry)) name)) × (now (s .exit) ≡ leftSound (now (s .entry)) (hotRow (now (s .entry)) name)) ⌝ }
 {
     if limits::NAMES as u32 <= name {
         return Tuned::Refused(refusals::BAD_ID);
@@ -95,7 +96,7 @@ fn store_activity(s: &mut [u32], name: u32, bits: u32) -> Tuned
 
 pub fn set_activity(s: &mut [u32], name: u32, activity: f32) -> Tuned
     requires { ⌜ Sound (now s) ⌝ }
-    ensures { λ r. ⌜ (r ≡ activityIn (now (s .entry)) name activity) × (now (s .exit) ≡ activityInStore (now (s .entry)) name activity) ⌝ }
+    ensures { λ r. ⌜ (r ≡ answerSound (activityRow (now (s .entry)) name activity)) × (now (s .exit) ≡ leftSound (now (s .entry)) (activityRow (now (s .entry)) name activity)) ⌝ }
 {
     if limits::NAMES as u32 <= name {
         return Tuned::Refused(refusals::BAD_ID);
@@ -109,7 +110,7 @@ pub fn set_activity(s: &mut [u32], name: u32, activity: f32) -> Tuned
 // What setting the mode would answer.
 fn mode_case(s: &[u32], mode: u32) -> Tuned
     requires { ⌜ Sound (now s) ⌝ }
-    ensures { λ r. ⌜ r ≡ modeIn (now (s .entry)) mode ⌝ }
+    ensures { λ r. ⌜ r ≡ answerSound (modeRow (now (s .entry)) mode) ⌝ }
 {
     if 2 <= mode {
         return Tuned::Refused(refusals::BAD_ID);
@@ -125,7 +126,7 @@ fn mode_case(s: &[u32], mode: u32) -> Tuned
 
 pub fn set_mode(s: &mut [u32], mode: u32) -> Tuned
     requires { ⌜ Sound (now s) ⌝ }
-    ensures { λ r. ⌜ (r ≡ modeIn (now (s .entry)) mode) × (now (s .exit) ≡ modeInStore (now (s .entry)) mode) ⌝ }
+    ensures { λ r. ⌜ (r ≡ answerSound (modeRow (now (s .entry)) mode)) × (now (s .exit) ≡ leftSound (now (s .entry)) (modeRow (now (s .entry)) mode)) ⌝ }
 {
     let r = mode_case(s, mode);
     match r {
@@ -137,7 +138,7 @@ pub fn set_mode(s: &mut [u32], mode: u32) -> Tuned
 
 pub fn name_of(s: &[u32], name: u32) -> Name
     requires { ⌜ Sound (now s) ⌝ }
-    ensures { λ r. ⌜ r ≡ nameIn (now (s .entry)) name ⌝ }
+    ensures { λ r. ⌜ r ≡ answerSound (nameRow (now (s .entry)) name) ⌝ }
 {
     if limits::NAMES as u32 <= name {
         return Name::Refused(refusals::BAD_ID);

@@ -1,9 +1,9 @@
 // Calls on the queue: sync, propose.
 use proposal::Proposal;
-use script::names;
-use script::say;
 use rules::activity;
 use rules::activity::Admitted;
+use script::names;
+use script::say;
 use store::limits::WORD_ROOM;
 use sync::Synced;
 

@@ -14,7 +14,7 @@ use Rattle.store.specs.Layout.{queued, cacheStates, mirror, mirrorLength, syncF
 use Rattle.store.specs.Limits.{clauses, requirements, trailRoom, lastVariable}
 use Rattle.store.specs.Shape.{every, upTo, Sound}
 use Rattle.sync.proofs.Sweeping.{length-sweep, area-sweep, sound-sweep}
-use Rattle.sync.specs.Sync.{newEntries, touchedIn, wakesAt, spoilsAt, wokenWords, spoiledWords, sweptWords, copiedWords, mirroredWords, syncInStore}
+use Rattle.sync.specs.Sync.{newEntries, touchedIn, wakesAt, spoilsAt, wokenWords, spoiledWords, sweptWords, copiedWords, mirroredWords, syncLeft}
 use Rattle.rules.proofs.Froms.{length-from}
 use Rattle.meaning.proofs.Lists.{every-from}
 
@@ -126,12 +126,12 @@ module _ (w : List ℕ) (h : Sound w) where
 
 -- SYNC
 module _ (w : List ℕ) (h : Sound w) where
-  pub sync-sound : Sound (syncInStore w)
-  unfolding syncInStore
+  pub sync-sound : Sound (syncLeft w)
+  unfolding syncLeft
   sync-sound = mirrored-sound (sweptWords w (touchedIn w)) (swept-sound w (touchedIn w) h)
 
-  pub sync-outside : (a : Area) → T (apart a queueRegion) → T (apart a mirrorRegion) → T (apart a syncFloor) → area a (syncInStore w) ≡ area a w
-  unfolding syncInStore
+  pub sync-outside : (a : Area) → T (apart a queueRegion) → T (apart a mirrorRegion) → T (apart a syncFloor) → area a (syncLeft w) ≡ area a w
+  unfolding syncLeft
   sync-outside a t u v =
       mirrored-area (sweptWords w (touchedIn w)) (swept-sound w (touchedIn w) h) a (apart-inside a mirror mirrorRegion u tt) (apart-inside a mirrorLength mirrorRegion u tt) v
       ∙ swept-area w (touchedIn w) h a t

@@ -14,7 +14,7 @@ use Rattle.store.specs.Shape.{Sound}
 use Rattle.sync.proofs.Kept.{swept-area, swept-sound, mirrored-area, mirrored-at, new-floor, new-length, sync-outside}
 use Rattle.sync.proofs.Mirrored.{touched-is, mirror-is, trail-kept}
 use Rattle.sync.proofs.Swept.{sweep-is}
-use Rattle.sync.specs.Sync.{touchedIn, sweptWords, mirroredWords, syncInStore}
+use Rattle.sync.specs.Sync.{touchedIn, sweptWords, mirroredWords, syncLeft}
 use Rattle.rules.specs.declared.Value.{Value}
 use Rattle.trail.specs.Assignment.{assigned}
 use Rattle.meaning.proofs.Lists.{length-trail}
@@ -28,8 +28,8 @@ module _ (w : List ℕ) (h : Sound w) where
   sound = swept-sound w (touchedIn w) h
 
   -- the queue: the touched variables are routed, one after the other
-  pub sync-is : queueOf (syncInStore w) ≡ routes (envOf w) (assigned w) (touchedIn w) (queueOf w)
-  unfolding syncInStore
+  pub sync-is : queueOf (syncLeft w) ≡ routes (envOf w) (assigned w) (touchedIn w) (queueOf w)
+  unfolding syncLeft
   sync-is =
       queue-same (mirroredWords s) s (mirrored-area s sound queueRegion tt tt tt) (mirrored-at s sound clauseCount tt tt tt 0)
       ∙ sweep-is w (touchedIn w) h
@@ -42,43 +42,43 @@ module _ (w : List ℕ) (h : Sound w) where
   swept-trail = trail-same s w (swept-area w (touchedIn w) h trailRegion tt)
 
   -- the trail stays
-  pub sync-trail : trailOf (syncInStore w) ≡ trailOf w
-  unfolding syncInStore
+  pub sync-trail : trailOf (syncLeft w) ≡ trailOf w
+  unfolding syncLeft
   sync-trail = trail-kept s sound ∙ swept-trail
 
   -- so does the assignment
-  pub sync-assigned : assigned (syncInStore w) ≡ assigned w
-  sync-assigned = assigned-same (syncInStore w) w (sync-outside w h map tt tt tt)
+  pub sync-assigned : assigned (syncLeft w) ≡ assigned w
+  sync-assigned = assigned-same (syncLeft w) w (sync-outside w h map tt tt tt)
 
   -- the mirror has the trail's entries from the floor on
-  pub sync-mirror : mirrorOf (syncInStore w) ≡ take (at syncFloor 0 w) (mirrorOf w) ++ variables (drop (at syncFloor 0 w) (trailOf w))
-  unfolding syncInStore
+  pub sync-mirror : mirrorOf (syncLeft w) ≡ take (at syncFloor 0 w) (mirrorOf w) ++ variables (drop (at syncFloor 0 w) (trailOf w))
+  unfolding syncLeft
   sync-mirror =
       let m = mirror-same s w (swept-area w (touchedIn w) h mirrorRegion tt) in
       mirror-is s sound ∙ rw (swept-at syncFloor tt 0, m, swept-trail)
 
   -- it is as long as the trail, and so far goes the floor
-  pub sync-mirror-length : at mirrorLength 0 (syncInStore w) ≡ at trailLength 0 w
-  unfolding syncInStore
+  pub sync-mirror-length : at mirrorLength 0 (syncLeft w) ≡ at trailLength 0 w
+  unfolding syncLeft
   sync-mirror-length = new-length s sound ∙ swept-at trailLength tt 0
 
-  pub sync-floor : at syncFloor 0 (syncInStore w) ≡ at trailLength 0 w
-  unfolding syncInStore
+  pub sync-floor : at syncFloor 0 (syncLeft w) ≡ at trailLength 0 w
+  unfolding syncLeft
   sync-floor = new-floor s sound ∙ swept-at trailLength tt 0
 
   -- where the map holds what the trail says, the words stand for the synced store
-  pub sync-stands : ((v : ℕ) → assigned w v ≡ value (trailOf w) v) → storeOf (syncInStore w) ≡ sync (storeOf w)
+  pub sync-stands : ((v : ℕ) → assigned w v ≡ value (trailOf w) v) → storeOf (syncLeft w) ≡ sync (storeOf w)
   sync-stands told =
       λ i.
       record {
-        env = env-same (syncInStore w) w (sync-outside w h environmentRegion tt tt tt) i;
+        env = env-same (syncLeft w) w (sync-outside w h environmentRegion tt tt tt) i;
         trail = sync-trail i;
         mirror = sync-mirror i;
         floor = (sync-floor ∙ sym (length-trail w)) i;
         queue = queue-is i;
       }
     where
-      queue-is : queueOf (syncInStore w) ≡ routes (envOf w) (value (trailOf w)) (touched (storeOf w)) (queueOf w)
+      queue-is : queueOf (syncLeft w) ≡ routes (envOf w) (value (trailOf w)) (touched (storeOf w)) (queueOf w)
       queue-is =
           sync-is
           ∙ ap (λ (a : ℕ → Value). routes (envOf w) a (touchedIn w) (queueOf w)) (fun-ext told)

@@ -24,7 +24,7 @@ use Rattle.sync.proofs.Sweeping.{length-sweep, area-sweep, sound-sweep,
 use Rattle.sync.proofs.Tests.{dirty-stays, cache-kept, wakes-kept, spoils-kept, wakes-alike, spoils-alike}
 use Rattle.sync.proofs.Touched.{entered-both, table-tells}
 use Rattle.sync.specs.Sweep.{sweep}
-use Rattle.sync.specs.Sync.{mirrorAt, oldEntries, newEntries, touchedIn, wakesAt, spoilsAt, block, DirtyBlock, spoilsFrom, spoiledFrom, wokenWords, spoiledWords, sweptWords, copiedWords, mirroredWords, syncInStore}
+use Rattle.sync.specs.Sync.{mirrorAt, oldEntries, newEntries, touchedIn, wakesAt, spoilsAt, block, DirtyBlock, spoilsFrom, spoiledFrom, wokenWords, spoiledWords, sweptWords, copiedWords, mirroredWords, syncLeft}
 use Rattle.sync.specs.Table.{inTable, entriesOf, entered, tableOf}
 use Rattle.rules.proofs.Froms.{upto-next, upto-done}
 use Rattle.meaning.proofs.Lists.{every-from, every-both}
@@ -196,8 +196,8 @@ module _ (w : List ℕ) (t : List Bool) (s : List ℕ) (h : Sound w) (e : s ≡ 
     pub second-sound : Sound r
     second-sound = rw f (spoiled-sound s (inTable t) first-sound)
 
-    pub sync-made : (u : List ℕ) → t ≡ tableOf (touchedIn w) → u ≡ mirroredWords r → u ≡ syncInStore w
-    unfolding syncInStore sweptWords wokenWords spoiledWords
+    pub sync-made : (u : List ℕ) → t ≡ tableOf (touchedIn w) → u ≡ mirroredWords r → u ≡ syncLeft w
+    unfolding syncLeft sweptWords wokenWords spoiledWords
     sync-made u i g = g ∙ ap mirroredWords (f ∙ ap (λ (v : List ℕ). spoiledWords v (inTable t)) (e ∙ marks) ∙ caches)
       where
         same : (v : ℕ) → member v (inTable t) ≡ member v (touchedIn w)

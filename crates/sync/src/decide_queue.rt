@@ -6,7 +6,7 @@ ghost use Rattle.store.specs.Area.{at};
 ghost use Rattle.store.specs.Layout.{clauseCount};
 ghost use Rattle.store.specs.Limits.{requirements};
 ghost use Rattle.store.specs.Shape.{Sound};
-ghost use Rattle.sync.specs.Sync.{touchesIn, brokenAt, wakesAt, spoilsAt, block, DirtyBlock, spoiledFrom, wokenWords, spoiledWords, copiedWords, mirroredWords, syncInStore};
+ghost use Rattle.sync.specs.Sync.{touchesIn, brokenAt, wakesAt, spoilsAt, block, DirtyBlock, spoiledFrom, wokenWords, spoiledWords, copiedWords, mirroredWords, syncLeft};
 ghost use Rattle.sync.specs.Table.{inTable};
 ghost use Rattle.sync.specs.declared.Synced.the-variants.{Touches};
 ghost use Rattle.trail.specs.Assignment.{floorOf};
@@ -166,7 +166,7 @@ fn touches(s: &[u32]) -> u32
 
 pub fn sync(s: &mut [u32]) -> Synced
     requires { ⌜ Sound (now s) ⌝ }
-    ensures { λ r. ⌜ (r ≡ Touches (touchesIn (now (s .entry)))) × (now (s .exit) ≡ syncInStore (now (s .entry))) ⌝ }
+    ensures { λ r. ⌜ (r ≡ Touches (touchesIn (now (s .entry)))) × (now (s .exit) ≡ syncLeft (now (s .entry))) ⌝ }
 {
     let n = touches(s);
     let mut t: [bool; PLACES] = [false; PLACES];

@@ -1,6 +1,7 @@
 // Sync: the queue learns which variables were touched since the last one.
 ghost use mathlib.Core.Path.{_≡_};
-ghost use Rattle.sync.specs.Sync.{syncOut, syncStore};
+ghost use Rattle.sync.specs.Sync.{syncRow};
+ghost use Rattle.store.specs.Row.{answerAny, leftAny};
 use store::refusals;
 use store::shape;
 
@@ -16,7 +17,7 @@ pub enum Synced {
 
 // Routes every touched variable; the mirror is then the trail.
 pub fn sync(s: &mut [u32]) -> Synced
-    ensures { λ r. ⌜ (r ≡ syncOut (now (s .entry))) × (now (s .exit) ≡ syncStore (now (s .entry))) ⌝ }
+    ensures { λ r. ⌜ (r ≡ answerAny (now (s .entry)) (syncRow (now (s .entry)))) × (now (s .exit) ≡ leftAny (now (s .entry)) (syncRow (now (s .entry)))) ⌝ }
 {
     if shape::sound(s) {
         return decide_queue::sync(s);

@@ -5,8 +5,9 @@ ghost use lib.ListN.{length};
 ghost use Rattle.store.specs.Layout.{words};
 ghost use Rattle.store.specs.Limits.{nodes, lastWord};
 ghost use Rattle.store.specs.Shape.{Sound};
-ghost use Rattle.tables.specs.Condition.{nodeLoaded, leafIn, branchIn, loadConditionIn, leafed, branched, nodePut, loadConditionInStore};
+ghost use Rattle.tables.specs.Condition.{nodeLoaded, leafIn, branchIn, leafed, branched, nodePut, loadConditionRow};
 ghost use Rattle.tables.specs.declared.Loaded.the-variants.{Done};
+ghost use Rattle.store.specs.Row.{answerSound, leftSound};
 use crate::Loaded;
 use crate::version_set;
 use store::codes;
@@ -73,7 +74,7 @@ fn branch_case(s: &[u32], node: u32, left: u32, right: u32) -> Loaded
 // What loading would answer.
 fn load_case(s: &[u32], node: u32, kind: u32, left: u32, right: u32) -> Loaded
     requires { ⌜ words ≤ length (now s) ⌝ }
-    ensures { λ r. ⌜ r ≡ loadConditionIn (now (s .entry)) node kind left right ⌝ }
+    ensures { λ r. ⌜ r ≡ answerSound (loadConditionRow (now (s .entry)) node kind left right) ⌝ }
 {
     if codes::CALLED_OR < kind {
         return Loaded::Refused(refusals::BAD_ID);
@@ -105,7 +106,7 @@ fn put_branch(s: &mut [u32], node: u32, kind: u32, left: u32, right: u32)
 
 // Writes a node.
 fn put_node(s: &mut [u32], node: u32, kind: u32, left: u32, right: u32)
-    requires { ⌜ (words ≤ length (now s)) × (loadConditionIn (now s) node kind left right ≡ Done) ⌝ }
+    requires { ⌜ (words ≤ length (now s)) × (answerSound (loadConditionRow (now s) node kind left right) ≡ Done) ⌝ }
     ensures { λ _. ⌜ now (s .exit) ≡ nodePut (now (s .entry)) node kind left right ⌝ }
 {
     if kind == codes::CALLED_LEAF {
@@ -117,7 +118,7 @@ fn put_node(s: &mut [u32], node: u32, kind: u32, left: u32, right: u32)
 
 pub fn load(s: &mut [u32], node: u32, kind: u32, left: u32, right: u32) -> Loaded
     requires { ⌜ Sound (now s) ⌝ }
-    ensures { λ r. ⌜ (r ≡ loadConditionIn (now (s .entry)) node kind left right) × (now (s .exit) ≡ loadConditionInStore (now (s .entry)) node kind left right) ⌝ }
+    ensures { λ r. ⌜ (r ≡ answerSound (loadConditionRow (now (s .entry)) node kind left right)) × (now (s .exit) ≡ leftSound (now (s .entry)) (loadConditionRow (now (s .entry)) node kind left right)) ⌝ }
 {
     let r = load_case(s, node, kind, left, right);
     match r {

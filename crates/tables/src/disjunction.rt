@@ -6,7 +6,8 @@ ghost use Rattle.store.specs.Area.{at};
 ghost use Rattle.store.specs.Layout.{words, literalCount};
 ghost use Rattle.store.specs.Limits.{disjunctions, literalRoom};
 ghost use Rattle.store.specs.Shape.{Sound};
-ghost use Rattle.tables.specs.Disjunction.{disjunctionLoaded, literalsOf, literalsUnder, literalsFit, loadDisjunctionIn, literalsPut, loadDisjunctionInStore};
+ghost use Rattle.tables.specs.Disjunction.{disjunctionLoaded, literalsOf, literalsUnder, literalsFit, literalsPut, loadDisjunctionRow};
+ghost use Rattle.store.specs.Row.{answerSound, leftSound};
 use crate::Literals;
 use crate::Loaded;
 use store::areas;
@@ -71,7 +72,7 @@ fn literals_fit(variables: &[u32], signs: &[u32]) -> bool
 // What loading would answer.
 fn load_case(s: &[u32], disjunction: u32, variables: &[u32], signs: &[u32]) -> Loaded
     requires { ⌜ Sound (now s) ⌝ }
-    ensures { λ r. ⌜ r ≡ loadDisjunctionIn (now (s .entry)) disjunction (now (variables .entry)) (now (signs .entry)) ⌝ }
+    ensures { λ r. ⌜ r ≡ answerSound (loadDisjunctionRow (now (s .entry)) disjunction (now (variables .entry)) (now (signs .entry))) ⌝ }
 {
     if limits::DISJUNCTIONS as u32 <= disjunction {
         return Loaded::Refused(refusals::BAD_ID);
@@ -116,7 +117,7 @@ fn put_literals(s: &mut [u32], disjunction: u32, variables: &[u32], signs: &[u32
 
 pub fn load(s: &mut [u32], disjunction: u32, variables: &[u32], signs: &[u32]) -> Loaded
     requires { ⌜ Sound (now s) ⌝ }
-    ensures { λ r. ⌜ (r ≡ loadDisjunctionIn (now (s .entry)) disjunction (now (variables .entry)) (now (signs .entry))) × (now (s .exit) ≡ loadDisjunctionInStore (now (s .entry)) disjunction (now (variables .entry)) (now (signs .entry))) ⌝ }
+    ensures { λ r. ⌜ (r ≡ answerSound (loadDisjunctionRow (now (s .entry)) disjunction (now (variables .entry)) (now (signs .entry)))) × (now (s .exit) ≡ leftSound (now (s .entry)) (loadDisjunctionRow (now (s .entry)) disjunction (now (variables .entry)) (now (signs .entry)))) ⌝ }
 {
     let r = load_case(s, disjunction, variables, signs);
     match r {

@@ -1,9 +1,10 @@
 // The tables: version sets, unions of them, disjunctions and condition nodes, each loaded once. Each public call tests the store's shape first.
 ghost use mathlib.Core.Path.{_≡_};
-ghost use Rattle.tables.specs.Condition.{loadConditionOut, loadConditionStore};
-ghost use Rattle.tables.specs.Disjunction.{loadDisjunctionOut, loadDisjunctionStore};
-ghost use Rattle.tables.specs.Union.{loadUnionOut, loadUnionStore};
-ghost use Rattle.tables.specs.VersionSet.{loadVersionSetOut, loadVersionSetStore};
+ghost use Rattle.tables.specs.VersionSet.{loadVersionSetRow};
+ghost use Rattle.tables.specs.Union.{loadUnionRow};
+ghost use Rattle.tables.specs.Disjunction.{loadDisjunctionRow};
+ghost use Rattle.tables.specs.Condition.{loadConditionRow};
+ghost use Rattle.store.specs.Row.{answerAny, leftAny};
 use store::refusals;
 use store::shape;
 
@@ -26,7 +27,7 @@ pub struct Literals {
 
 // Loads a version set with its name.
 pub fn load_version_set(s: &mut [u32], set: u32, name: u32) -> Loaded
-    ensures { λ r. ⌜ (r ≡ loadVersionSetOut (now (s .entry)) set name) × (now (s .exit) ≡ loadVersionSetStore (now (s .entry)) set name) ⌝ }
+    ensures { λ r. ⌜ (r ≡ answerAny (now (s .entry)) (loadVersionSetRow (now (s .entry)) set name)) × (now (s .exit) ≡ leftAny (now (s .entry)) (loadVersionSetRow (now (s .entry)) set name)) ⌝ }
 {
     if shape::sound(s) {
         return version_set::load(s, set, name);
@@ -36,7 +37,7 @@ pub fn load_version_set(s: &mut [u32], set: u32, name: u32) -> Loaded
 
 // Loads a union of version sets, none of them twice.
 pub fn load_union(s: &mut [u32], union: u32, members: &[u32]) -> Loaded
-    ensures { λ r. ⌜ (r ≡ loadUnionOut (now (s .entry)) union (now (members .entry))) × (now (s .exit) ≡ loadUnionStore (now (s .entry)) union (now (members .entry))) ⌝ }
+    ensures { λ r. ⌜ (r ≡ answerAny (now (s .entry)) (loadUnionRow (now (s .entry)) union (now (members .entry)))) × (now (s .exit) ≡ leftAny (now (s .entry)) (loadUnionRow (now (s .entry)) union (now (members .entry)))) ⌝ }
 {
     if shape::sound(s) {
         return version_union::load(s, union, members);
@@ -46,7 +47,7 @@ pub fn load_union(s: &mut [u32], union: u32, members: &[u32]) -> Loaded
 
 // Loads a disjunction: literal j is variables[j] with signs[j] (0 plain, 1 negated).
 pub fn load_disjunction(s: &mut [u32], disjunction: u32, variables: &[u32], signs: &[u32]) -> Loaded
-    ensures { λ r. ⌜ (r ≡ loadDisjunctionOut (now (s .entry)) disjunction (now (variables .entry)) (now (signs .entry))) × (now (s .exit) ≡ loadDisjunctionStore (now (s .entry)) disjunction (now (variables .entry)) (now (signs .entry))) ⌝ }
+    ensures { λ r. ⌜ (r ≡ answerAny (now (s .entry)) (loadDisjunctionRow (now (s .entry)) disjunction (now (variables .entry)) (now (signs .entry)))) × (now (s .exit) ≡ leftAny (now (s .entry)) (loadDisjunctionRow (now (s .entry)) disjunction (now (variables .entry)) (now (signs .entry)))) ⌝ }
 {
     if shape::sound(s) {
         return disjunction::load(s, disjunction, variables, signs);
@@ -56,7 +57,7 @@ pub fn load_disjunction(s: &mut [u32], disjunction: u32, variables: &[u32], sign
 
 // Loads a condition node: kind 0 is a leaf of the version set `left`, 1 the `and` and 2 the `or` of two nodes.
 pub fn load_condition(s: &mut [u32], node: u32, kind: u32, left: u32, right: u32) -> Loaded
-    ensures { λ r. ⌜ (r ≡ loadConditionOut (now (s .entry)) node kind left right) × (now (s .exit) ≡ loadConditionStore (now (s .entry)) node kind left right) ⌝ }
+    ensures { λ r. ⌜ (r ≡ answerAny (now (s .entry)) (loadConditionRow (now (s .entry)) node kind left right)) × (now (s .exit) ≡ leftAny (now (s .entry)) (loadConditionRow (now (s .entry)) node kind left right)) ⌝ }
 {
     if shape::sound(s) {
         return condition::load(s, node, kind, left, right);

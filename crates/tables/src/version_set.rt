@@ -4,7 +4,8 @@ ghost use Prim.Native.Nat.{_≤_};
 ghost use lib.ListN.{length};
 ghost use Rattle.store.specs.Layout.{words};
 ghost use Rattle.store.specs.Shape.{Sound};
-ghost use Rattle.tables.specs.VersionSet.{setLoaded, loadVersionSetIn, loadVersionSetInStore};
+ghost use Rattle.tables.specs.VersionSet.{setLoaded, loadVersionSetRow};
+ghost use Rattle.store.specs.Row.{answerSound, leftSound};
 use crate::Loaded;
 use store::limits;
 use store::read;
@@ -26,7 +27,7 @@ pub fn set_loaded(s: &[u32], set: u32) -> bool
 // What loading would answer.
 fn load_case(s: &[u32], set: u32, name: u32) -> Loaded
     requires { ⌜ words ≤ length (now s) ⌝ }
-    ensures { λ r. ⌜ r ≡ loadVersionSetIn (now (s .entry)) set name ⌝ }
+    ensures { λ r. ⌜ r ≡ answerSound (loadVersionSetRow (now (s .entry)) set name) ⌝ }
 {
     if limits::VERSION_SETS as u32 <= set {
         return Loaded::Refused(refusals::BAD_ID);
@@ -42,7 +43,7 @@ fn load_case(s: &[u32], set: u32, name: u32) -> Loaded
 
 pub fn load(s: &mut [u32], set: u32, name: u32) -> Loaded
     requires { ⌜ Sound (now s) ⌝ }
-    ensures { λ r. ⌜ (r ≡ loadVersionSetIn (now (s .entry)) set name) × (now (s .exit) ≡ loadVersionSetInStore (now (s .entry)) set name) ⌝ }
+    ensures { λ r. ⌜ (r ≡ answerSound (loadVersionSetRow (now (s .entry)) set name)) × (now (s .exit) ≡ leftSound (now (s .entry)) (loadVersionSetRow (now (s .entry)) set name)) ⌝ }
 {
     let r = load_case(s, set, name);
     match r {

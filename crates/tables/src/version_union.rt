@@ -5,8 +5,9 @@ ghost use lib.ListN.{length};
 ghost use Rattle.store.specs.Layout.{words};
 ghost use Rattle.store.specs.Limits.{unions, unionRoom};
 ghost use Rattle.store.specs.Shape.{Sound, every};
-ghost use Rattle.tables.specs.Union.{unionLoaded, newAt, distinct, loadUnionIn, membersPut, loadUnionInStore};
+ghost use Rattle.tables.specs.Union.{unionLoaded, newAt, distinct, membersPut, loadUnionRow};
 ghost use Rattle.tables.specs.VersionSet.{setLoaded};
+ghost use Rattle.store.specs.Row.{answerSound, leftSound};
 use crate::Loaded;
 use crate::version_set;
 use store::areas;
@@ -75,7 +76,7 @@ fn distinct(list: &[u32]) -> bool
 // What loading would answer.
 fn load_case(s: &[u32], union: u32, members: &[u32]) -> Loaded
     requires { ⌜ words ≤ length (now s) ⌝ }
-    ensures { λ r. ⌜ r ≡ loadUnionIn (now (s .entry)) union (now (members .entry)) ⌝ }
+    ensures { λ r. ⌜ r ≡ answerSound (loadUnionRow (now (s .entry)) union (now (members .entry))) ⌝ }
 {
     if limits::UNIONS as u32 <= union {
         return Loaded::Refused(refusals::BAD_ID);
@@ -112,7 +113,7 @@ fn put_members(s: &mut [u32], union: u32, members: &[u32])
 
 pub fn load(s: &mut [u32], union: u32, members: &[u32]) -> Loaded
     requires { ⌜ Sound (now s) ⌝ }
-    ensures { λ r. ⌜ (r ≡ loadUnionIn (now (s .entry)) union (now (members .entry))) × (now (s .exit) ≡ loadUnionInStore (now (s .entry)) union (now (members .entry))) ⌝ }
+    ensures { λ r. ⌜ (r ≡ answerSound (loadUnionRow (now (s .entry)) union (now (members .entry)))) × (now (s .exit) ≡ leftSound (now (s .entry)) (loadUnionRow (now (s .entry)) union (now (members .entry)))) ⌝ }
 {
     let r = load_case(s, union, members);
     match r {
