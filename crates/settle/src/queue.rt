@@ -1,7 +1,6 @@
 // Calls on the queue: sync, propose.
+ghost use Rattle.proposal.specs.Propose.{Numbered};
 use proposal::Proposal;
-use rules::activity;
-use rules::activity::Admitted;
 use script::names;
 use script::say;
 use store::limits::WORD_ROOM;
@@ -14,15 +13,31 @@ fn say_synced(answer: Synced) -> bool {
     }
 }
 
-// The bits of an activity that was stored, which is never bad.
-fn bits_of(x: f32) -> u32 {
-    match activity::admit(x) {
-        Admitted::Bits(bits) => bits,
-        Admitted::Bad => 0,
-    }
+fn say_choice(
+    candidate: u32,
+    parent: u32,
+    clause: u32,
+    bits: u32,
+    count: u32,
+    dropped: u32,
+) -> bool {
+    say::text(b"choose")
+        && say::word(candidate)
+        && say::word(parent)
+        && say::word(clause)
+        && say::word(bits)
+        && say::word(count)
+        && say::word(dropped)
+        && say::line_end()
 }
 
-fn say_proposal(answer: Proposal) -> bool {
+fn say_dead(clause: u32, dropped: u32) -> bool {
+    say::text(b"refused 8") && say::word(clause) && say::word(dropped) && say::line_end()
+}
+
+fn say_proposal(answer: Proposal) -> bool
+    requires { ⌜ Numbered answer ⌝ }
+{
     match answer {
         Proposal::Choose {
             candidate,
@@ -32,19 +47,11 @@ fn say_proposal(answer: Proposal) -> bool {
             count,
             dropped,
         } => {
-            say::text(b"choose")
-                && say::word(candidate)
-                && say::word(parent)
-                && say::word(clause)
-                && say::word(bits_of(activity))
-                && say::word(count)
-                && say::word(dropped)
-                && say::line_end()
+            let bits = f32::to_bits(activity);
+            say_choice(candidate, parent, clause, bits, count, dropped)
         }
         Proposal::Nothing { dropped } => say::named(b"nothing", dropped),
-        Proposal::Dead { clause, dropped } => {
-            say::text(b"refused 8") && say::word(clause) && say::word(dropped) && say::line_end()
-        }
+        Proposal::Dead { clause, dropped } => say_dead(clause, dropped),
         Proposal::Refused(n) => say::refused(n),
     }
 }
