@@ -1,4 +1,7 @@
 // Clauses: their records in position order, and registering. Each public call tests the store's shape first.
+
+#![tactic(auto)]
+
 ghost use Rattle.std.specs.Prelude.{◌≡◌};
 ghost use Rattle.clauses.specs.Register.{register_row};
 ghost use Rattle.store.specs.Row.{answer_any, left_any};

@@ -1,4 +1,7 @@
 // Conditions: rewriting a condition's tree to its terms, and whether a disjunct holds. Each public call tests the store's shape first.
+
+#![tactic(auto)]
+
 ghost use Rattle.std.specs.Prelude.{◌≡◌, length};
 ghost use Rattle.conditions.specs.Rewrite.{rewrite_lengths, rewrite_cells, rewrite_row};
 ghost use Rattle.conditions.specs.Disjunct.{disjunct_row};

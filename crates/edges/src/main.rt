@@ -1,5 +1,8 @@
 // Document 01's edges that are shown by running: the largest level, the largest rewritten condition and the last clause, one step beyond
 // each, and undo-until on one entry above its level.
+
+#![tactic(auto)]
+
 use clauses::Registered;
 use conditions::Rewritten;
 use script::say;

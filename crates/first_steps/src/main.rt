@@ -1,4 +1,7 @@
 // First steps on a store: how many words it needs, a fresh one, two assignments, one of them taken back.
+
+#![tactic(auto)]
+
 use script::say;
 use store::{areas, limits};
 use trail::{Assigned, Undone, Valued};

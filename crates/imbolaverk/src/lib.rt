@@ -1,5 +1,8 @@
 // The C entry points. Each is total on any arguments, and answers 0 for done or the number of its refusal. In each module a function
 // `.._number` gives the number of an answer, and `give_..` gives it and writes the answer's values to the lent output.
+
+#![tactic(auto)]
+
 pub mod clauses_calls;
 pub mod conditions_calls;
 pub mod copy_trail;

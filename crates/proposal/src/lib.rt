@@ -1,4 +1,7 @@
 // The proposal: which candidate to decide next, by document 01's walk over the queued clauses.
+
+#![tactic(auto)]
+
 ghost use Rattle.std.specs.Prelude.{◌≡◌, ◌≤◌, length};
 ghost use Rattle.store.specs.Layout.{words};
 ghost use Rattle.proposal.specs.Propose.{Numbered, unsynced, proposal_row};

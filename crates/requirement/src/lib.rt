@@ -1,4 +1,7 @@
 // Requirements and their candidate tables. Each public call tests the store's shape first.
+
+#![tactic(auto)]
+
 ghost use Rattle.std.specs.Prelude.{◌≡◌, length};
 ghost use Rattle.requirement.specs.Copy.{copy_lengths, copy_cells, copy_row};
 ghost use Rattle.requirement.specs.Load.{load_row};

@@ -1,5 +1,8 @@
 // The script language's lines: their words as codes, the forms that a call's words take and what is said of them, lists of numbers, and what
 // is written in answer.
+
+#![tactic(auto)]
+
 pub mod expected;
 pub mod forms;
 pub mod lines;

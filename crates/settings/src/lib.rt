@@ -1,4 +1,7 @@
 // The settings of a store: each name's activity and whether it is hot, and the mode.
+
+#![tactic(auto)]
+
 ghost use Rattle.std.specs.Prelude.{◌≡◌};
 ghost use Rattle.settings.specs.Settings.{activity_row, hot_row, mode_now_row, mode_row, name_row};
 ghost use Rattle.store.specs.Row.{answer_any, left_any};

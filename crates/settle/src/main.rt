@@ -1,6 +1,9 @@
 // Reads calls line by line from standard input, makes them on one store, and writes one answer line for each. `help` lists them. With the
 // argument `--echo` it says each line before its answer, behind "> ", for who tells both to people. What went wrong is said on standard
 // error when all is answered, in one line: that some lines were not understood, or that reading or writing failed.
+
+#![tactic(auto)]
+
 mod answer;
 mod clause;
 mod decisions;

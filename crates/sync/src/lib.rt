@@ -1,4 +1,7 @@
 // Sync: the queue learns which variables were touched since the last one.
+
+#![tactic(auto)]
+
 ghost use Rattle.std.specs.Prelude.{◌≡◌};
 ghost use Rattle.sync.specs.Sync.{sync_row};
 ghost use Rattle.store.specs.Row.{answer_any, left_any};

@@ -1,4 +1,7 @@
 // The tables: version sets, unions of them, disjunctions and condition nodes, each loaded once. Each public call tests the store's shape first.
+
+#![tactic(auto)]
+
 ghost use Rattle.std.specs.Prelude.{◌≡◌};
 ghost use Rattle.tables.specs.VersionSet.{load_version_set_row};
 ghost use Rattle.tables.specs.Union.{load_union_row};

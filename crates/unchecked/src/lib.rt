@@ -1,5 +1,8 @@
 // The calls that the benchmark times without their check of the shape: each is its entry point of `imbolaverk` less that check. For the
 // benchmark alone: a store must be of sound shape, and nothing here tests that it is, so no host may call these.
+
+#![tactic(auto)]
+
 ghost use Rattle.std.specs.Prelude.{cond, ◌≡◌};
 ghost use Rattle.clauses.specs.Register.{registered_number, register_row};
 ghost use Rattle.imbolaverk.specs.Proposed.{proposed};
