@@ -12,7 +12,7 @@ use store::{refusals, shape};
 pub mod candidates;
 
 // A single version set, or a union of version sets.
-#[derive(Drop)]
+#[derive(Clone, Copy)]
 pub enum Requirement {
     Single(u32),
     Union(u32),

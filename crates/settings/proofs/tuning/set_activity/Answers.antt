@@ -9,8 +9,8 @@ returns-then-name c = simp (le-leb _ _ c.if-name.true) (refl, refl)
 
 pub returns-in-Bits : goal.returns-in-Bits
 unfolding activity_tests activity_on activity_on_store
-returns-in-Bits c = simp (lt-leb _ _ c.if-name.false, sym c.admit.ensures ∙ c.bits-1.given.1) c.store_activity.ensures
+returns-in-Bits c = simp (lt-leb _ _ c.if-name.false, sym c.admit.ensures ∙ c.in-Bits.is) c.store_activity.ensures
 
 pub returns-in-Bad : goal.returns-in-Bad
 unfolding activity_tests
-returns-in-Bad c = simp (lt-leb _ _ c.if-name.false, sym c.admit.ensures ∙ c.enum_told-1.given.1) (refl, refl)
+returns-in-Bad c = simp (lt-leb _ _ c.if-name.false, sym c.admit.ensures ∙ c.in-Bad.is) (refl, refl)

@@ -5,7 +5,7 @@ use Rattle.store.specs.Layout.{mode}
 use Rattle.settings.proofs.tuning.set_mode.Goals as goal
 
 pub returns-in-Done : goal.returns-in-Done
-returns-in-Done c = (c.mode_case-r.ensures, c.mode.ensures ∙ sym (done_leaves (mode_tests _ _) _ _ (sym c.mode_case-r.ensures ∙ c.enum_told-1.given.1)))
+returns-in-Done c = (c.mode_case-r.ensures, c.mode.ensures ∙ sym (done_leaves (mode_tests _ _) _ _ (sym c.mode_case-r.ensures ∙ c.in-Done.is)))
 
 pub returns-in-Refused : goal.returns-in-Refused
-returns-in-Refused c = (c.mode_case-r.ensures, sym (refused_leaves (mode_tests _ _) _ _ _ (sym c.mode_case-r.ensures ∙ c.enum_told-in-Refused-1.given.1)))
+returns-in-Refused c = (c.mode_case-r.ensures, sym (refused_leaves (mode_tests _ _) _ _ _ (sym c.mode_case-r.ensures ∙ c.in-Refused.is)))
