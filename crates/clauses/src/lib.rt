@@ -13,7 +13,7 @@ pub mod records;
 pub mod registering;
 
 // A clause as it is stored, with its requirement, single or union, inside it: its condition is 0 for none, else one more than the disjunction.
-#[derive(Drop)]
+#[derive(Clone, Copy)]
 pub struct Clause {
     pub parent: u32,
     pub requirement: Requirement,
@@ -21,7 +21,7 @@ pub struct Clause {
     pub id: u32,
 }
 
-#[derive(Drop)]
+#[derive(Clone, Copy)]
 pub enum Registered {
     Done,
     Refused(u32),

@@ -13,20 +13,20 @@ pub mod disjunct;
 pub mod dnf;
 
 // Where a term under a link comes from: a leaf's version set, a term under another link, or one followed by another.
-#[derive(Drop)]
+#[derive(Clone, Copy)]
 pub enum Way {
     Leaf(u32),
     One(usize, usize),
     Two(usize, usize, usize, usize),
 }
 
-#[derive(Drop)]
+#[derive(Clone, Copy)]
 pub enum Rewritten {
     Terms { terms: u32, cells: u32 },
     Refused(u32),
 }
 
-#[derive(Drop)]
+#[derive(Clone, Copy)]
 pub enum Holds {
     Yes,
     No,

@@ -21,7 +21,7 @@ use rules::{Best, Finding, Out, selection};
 use store::{codes, limits, read, wide};
 
 // What a clause does to the best so far: the walk goes on with a best and a number of drops, or ends at its best or at a dead clause.
-#[derive(Drop)]
+#[derive(Clone, Copy)]
 pub enum Weighed {
     On(Best, u32),
     Enough,
@@ -29,7 +29,7 @@ pub enum Weighed {
 }
 
 // The walk's answer, and the number of clauses that it dropped.
-#[derive(Drop)]
+#[derive(Clone, Copy)]
 pub struct Walked {
     pub out: Out,
     pub drops: u32,

@@ -12,7 +12,7 @@ use trail::entries;
 
 pub mod decide_queue;
 
-#[derive(Drop)]
+#[derive(Clone, Copy)]
 pub enum Proposal {
     Choose {
         candidate: u32,

@@ -18,13 +18,13 @@ pub enum Requirement {
     Union(u32),
 }
 
-#[derive(Drop)]
+#[derive(Clone, Copy)]
 pub enum Loaded {
     Done,
     Refused(u32),
 }
 
-#[derive(Drop)]
+#[derive(Clone, Copy)]
 pub enum Copied {
     // How many lists and how many cells were copied.
     Done { lists: u32, cells: u32 },

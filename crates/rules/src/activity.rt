@@ -8,7 +8,7 @@ ghost use Rattle.rules.specs.Activity.{admitted, last_activity};
 pub const LAST_ACTIVITY: usize = 2_139_095_039;
 
 // What an activity from outside is: its bits, or nothing that can be stored.
-#[derive(Drop)]
+#[derive(Clone, Copy)]
 pub enum Admitted {
     Bits(u32),
     Bad,

@@ -11,20 +11,20 @@ use store::{refusals, shape};
 pub mod tuning;
 
 // The answer of a call that changes a setting.
-#[derive(Drop)]
+#[derive(Clone, Copy)]
 pub enum Tuned {
     Done,
     Refused(u32),
 }
 
-#[derive(Drop)]
+#[derive(Clone, Copy)]
 pub enum Mode {
     // 1 standard, 0 not.
     Is(u32),
     Refused(u32),
 }
 
-#[derive(Drop)]
+#[derive(Clone, Copy)]
 pub enum Name {
     // The bits of its activity, and 1 if it is hot.
     Is { activity: u32, hot: u32 },

@@ -12,7 +12,7 @@ pub mod decide_queue;
 pub mod occurrences;
 pub mod table;
 
-#[derive(Drop)]
+#[derive(Clone, Copy)]
 pub enum Synced {
     // How many entries were touched.
     Touches(u32),

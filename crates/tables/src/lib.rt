@@ -17,14 +17,14 @@ pub mod version_set;
 pub mod version_union;
 
 // The answer of a call that loads.
-#[derive(Drop)]
+#[derive(Clone, Copy)]
 pub enum Loaded {
     Done,
     Refused(u32),
 }
 
 // Where the literals of a disjunction begin, and how many there are.
-#[derive(Drop)]
+#[derive(Clone, Copy)]
 pub struct Literals {
     pub start: u32,
     pub count: u32,

@@ -1,0 +1,25 @@
+use mathlib.Core.Logic.{⊎_elim}
+use mathlib.Core.Path.{sym, ◌∙◌}
+use Prim.Native.Nat.{◌-◌}
+use native.Mathlib.Omega.{arith}
+use Rattle.sync.proofs.Turns.{spoiling_none, spoiling_length, spoiling_sound, spoiling_set, spoiling_skip, spoiling_end}
+use Rattle.sync.specs.Table.{in_table}
+use Rattle.sync.proofs.decide_queue.spoil_block.Goals as goal
+
+pub loop-key-init : goal.loop-key-init
+loop-key-init c = (omega arith, omega arith, spoiling_none _ (in_table c.args.t.now) _)
+
+pub spoils-requires : goal.spoils-requires
+spoils-requires c = (spoiling_sound _ (in_table c.args.t.now) _ _ _ c.requires.0 (omega arith) c.loop-key.invariant.2, omega arith)
+
+pub cache_state-requires : goal.cache_state-requires
+cache_state-requires c = ((spoiling_sound _ (in_table c.args.t.now) _ _ _ c.requires.0 (omega arith) c.loop-key.invariant.2).long, omega arith)
+
+pub loop-key-preserved : goal.loop-key-preserved
+loop-key-preserved c = (omega arith, omega arith, ⊎_elim (λ w. spoiling_set _ (in_table c.args.t.now) _ _ _ c.requires.0 (omega arith) c.loop-key.invariant.2 c.loop-key.invariant.0 _ (w.5 ∙ w.2.ensures) (sym c.spoils.ensures ∙ w.0.taken)) (λ w. spoiling_skip _ (in_table c.args.t.now) _ _ _ c.requires.0 (omega arith) c.loop-key.invariant.2 c.loop-key.invariant.0 _ w.1 (sym c.spoils.ensures ∙ w.0.left)) c.if-spoils.branch)
+
+pub shape_of-s : goal.shape_of-s
+shape_of-s c = spoiling_length _ (in_table c.args.t.now) _ _ _ c.requires.0 (omega arith) c.loop-key.invariant.2
+
+pub returns : goal.returns
+returns c = spoiling_end _ (in_table c.args.t.now) _ _ _ c.requires.0 (omega arith) c.loop-key.invariant.2 _ c.loop-key.invariant.1 c.loop-key-test.false

@@ -1,0 +1,25 @@
+use mathlib.Core.Logic.{⊎_elim}
+use mathlib.Core.Path.{refl, ◌∙◌}
+use Prim.Native.Nat.{◌-◌}
+use native.Mathlib.Omega.{arith}
+use Rattle.sync.proofs.Turns.{spoiling_none, spoiling_length, spoiling_sound, spoiling_block, spoiling_done, dirty-block}
+use Rattle.sync.specs.Table.{in_table}
+use Rattle.sync.proofs.decide_queue.spoil_caches.Goals as goal
+
+pub loop-from-init : goal.loop-from-init
+loop-from-init c = (omega arith, refl, spoiling_none _ (in_table c.args.t.now) 0)
+
+pub all_dirty-requires : goal.all_dirty-requires
+all_dirty-requires c = (spoiling_sound _ (in_table c.args.t.now) _ 0 _ c.requires c.loop-from.invariant.0 c.loop-from.invariant.2, omega (arith, c.loop-from.invariant.1))
+
+pub spoil_block-requires : goal.spoil_block-requires
+spoil_block-requires c = (spoiling_sound _ (in_table c.args.t.now) _ 0 _ c.requires c.loop-from.invariant.0 c.loop-from.invariant.2, omega (arith, c.loop-from.invariant.1))
+
+pub loop-from-preserved : goal.loop-from-preserved
+loop-from-preserved c = (omega (arith, c.loop-from.invariant.1), omega (arith, c.loop-from.invariant.1), spoiling_block _ (in_table c.args.t.now) _ 0 _ c.requires c.loop-from.invariant.0 c.loop-from.invariant.2 (omega arith) _ (⊎_elim (λ w. w.1 ∙ dirty-block _ _ _ (c.all_dirty.ensures w.0.taken)) (λ w. w.5 ∙ w.2.ensures) c.if-all_dirty.branch))
+
+pub shape_of-s : goal.shape_of-s
+shape_of-s c = spoiling_length _ (in_table c.args.t.now) _ 0 _ c.requires c.loop-from.invariant.0 c.loop-from.invariant.2
+
+pub returns : goal.returns
+returns c = spoiling_done _ (in_table c.args.t.now) _ 0 _ c.requires c.loop-from.invariant.0 c.loop-from.invariant.2 refl c.loop-from-test.false
