@@ -1,4 +1,3 @@
-use mathlib.Core.Logic.{⊎_elim}
 use mathlib.Core.Path.{sym, ◌∙◌}
 use Prim.Native.Nat.{◌-◌}
 use native.Mathlib.Omega.{arith}
@@ -9,6 +8,7 @@ use Rattle.sync.proofs.Turns.{waking_length, waking_sound, waking_count, waking_
 use Rattle.sync.specs.Sync.{wakes_at}
 use Rattle.sync.specs.Table.{in_table}
 use Rattle.sync.proofs.decide_queue.wake_clauses.Goals as goal
+use Rattle.sync.proofs.decide_queue.wake_clauses.Goals.{then-wakes, else-wakes}
 
 pub loop-k-init : goal.loop-k-init
 loop-k-init c = (omega arith, sweep-none queued (wakes_at c.args.s.now (in_table c.args.t.now)) 1 _)
@@ -20,7 +20,7 @@ pub queued-requires : goal.queued-requires
 queued-requires c = ((waking_sound _ (in_table c.args.t.now) _ _ _ c.requires (c.wide-n.ensures ∙ c.clause_count.ensures) c.loop-k.invariant.0 c.loop-k.invariant.1).long, omega (arith, c.loop-k-test.true, c.wide-n.ensures ∙ c.clause_count.ensures, c.requires.ranges clause_count clauses tt 0))
 
 pub loop-k-preserved : goal.loop-k-preserved
-loop-k-preserved c = (omega arith, ⊎_elim (λ w. waking_set _ (in_table c.args.t.now) _ _ _ c.requires (c.wide-n.ensures ∙ c.clause_count.ensures) c.loop-k.invariant.0 c.loop-k.invariant.1 _ (w.5 ∙ w.2.ensures) (sym c.wakes.ensures ∙ w.0.taken)) (λ w. waking_skip _ (in_table c.args.t.now) _ _ _ c.requires (c.wide-n.ensures ∙ c.clause_count.ensures) c.loop-k.invariant.0 c.loop-k.invariant.1 _ w.1 (sym c.wakes.ensures ∙ w.0.left)) c.if-wakes.branch)
+loop-k-preserved c = (omega arith, elim c.if-wakes.branch [ then-wakes w ↦ waking_set _ (in_table c.args.t.now) _ _ _ c.requires (c.wide-n.ensures ∙ c.clause_count.ensures) c.loop-k.invariant.0 c.loop-k.invariant.1 _ (w.s-is ∙ w.queued.ensures) (sym c.wakes.ensures ∙ w.if-wakes.true) | else-wakes w ↦ waking_skip _ (in_table c.args.t.now) _ _ _ c.requires (c.wide-n.ensures ∙ c.clause_count.ensures) c.loop-k.invariant.0 c.loop-k.invariant.1 _ w.s-is (sym c.wakes.ensures ∙ w.if-wakes.false) ])
 
 pub shape_of-s : goal.shape_of-s
 shape_of-s c = waking_length _ (in_table c.args.t.now) _ _ _ c.requires (c.wide-n.ensures ∙ c.clause_count.ensures) c.loop-k.invariant.0 c.loop-k.invariant.1
