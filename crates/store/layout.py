@@ -31,8 +31,8 @@ def constants_of(specs, names, source, function):
     return dict(zip(listed.split(" ∷ "), re.findall(r"\w+", returned)))
 
 
-LIMITS = constants_of("specs/Limits.antt", "sizesOf", "src/limits.rt", "sizes")
-CODES = constants_of("specs/Codes.antt", "codesOf", "src/codes.rt", "all")
+LIMITS = constants_of("specs/Limits.antt", "sizes_of", "src/limits.rt", "sizes")
+CODES = constants_of("specs/Codes.antt", "codes_of", "src/codes.rt", "all")
 
 
 def wrong(number, why):
@@ -72,7 +72,7 @@ UNRANGED = [area for area in AREAS if area.largest == "any"]
 
 
 def constant(name):
-    return re.sub(r"(?=[A-Z])", "_", name).upper()
+    return name.upper()
 
 
 def value(name):
@@ -100,10 +100,10 @@ def fitted(opening, items, closing):
 AREAS_FILE = Template("""\
 // The areas of the store: where each begins and how many words it has. Code above names an area, never a number.
 // $written
-ghost use mathlib.Core.Path.{_≡_};
-ghost use Rattle·store·specs.specs.Layout.{layoutOf, unrangedOf};
-use crate::codes;
-use crate::limits;
+ghost use Rattle.std.specs.Prelude.{◌≡◌};
+ghost use Rattle.store.specs.Layout.{layout_of, unranged_of};
+
+use crate::{codes, limits};
 
 $constants
 
@@ -120,14 +120,14 @@ pub const ROWS: usize = $rows;
 
 // A row for each of them: its base, its size and the largest number that a word of it may hold.
 pub fn layout() -> [usize; 3 * ROWS]
-    ensures { λ r. ⌜ r ≡ layoutOf ⌝ }
+    ensures { result ≡ layout_of }
 {
 $layout
 }
 
 // The other areas, and the number of words.
 pub fn unranged() -> [usize; $others]
-    ensures { λ r. ⌜ r ≡ unrangedOf ⌝ }
+    ensures { result ≡ unranged_of }
 {
 $unranged
 }
@@ -165,21 +165,19 @@ def areas_file():
 READERS_FILE = Template("""\
 // Reading a word of each area, by the area's name.
 // $written
-ghost use mathlib.Core.Path.{_≡_};
-ghost use Prim.Native.Nat.{_≤_, _<_};
-ghost use lib.ListN.{length};
-ghost use Rattle·store·specs.specs.Area.{at};
-ghost use Rattle·store·specs.specs.Layout.{words, $areas};
-use crate::areas;
-use crate::word;
+ghost use Rattle.std.specs.Prelude.{◌≡◌, ◌≤◌, ◌<◌, length};
+ghost use Rattle.store.specs.Area.{at};
+ghost use Rattle.store.specs.Layout.{words, $areas};
+
+use crate::{areas, word};
 
 $functions
 """)
 
 READER = Template("""\
 pub fn $function(s: &[u32]$index) -> u32
-    requires { ⌜ $needs ⌝ }
-    ensures { λ r. ⌜ r ≡ at $area $i (now (s .entry)) ⌝ }
+    requires { $needs }
+    ensures { result ≡ at $area $i s.now }
 {
 $body
 }""")
@@ -187,30 +185,29 @@ $body
 WRITERS_FILE = Template("""\
 // Writing a word of each area, by the area's name.
 // $written
-ghost use mathlib.Core.Path.{_≡_};
-ghost use Prim.Native.Nat.{_≤_, _<_};
-ghost use lib.ListN.{length};
-ghost use Rattle·store·specs.specs.Area.{put};
-ghost use Rattle·store·specs.specs.Layout.{words, $areas};
-use crate::areas;
-use crate::set_word;
+ghost use Rattle.std.specs.Prelude.{◌≡◌, ◌≤◌, ◌<◌, length};
+ghost use Rattle.store.specs.Area.{put};
+ghost use Rattle.store.specs.Layout.{words, $areas};
+
+use crate::{areas, set_word};
 
 $functions
 """)
 
 WRITER = Template("""\
 pub fn $function(s: &mut [u32]$index, x: u32)
-    requires { ⌜ $needs ⌝ }
-    ensures { λ _. ⌜ now (s .exit) ≡ put $area $i x (now (s .entry)) ⌝ }
+    requires { $needs }
+    ensures { s.new ≡ put $area $i x s.old }
 {
 $body
 }""")
 
 
 def one_function(template, function, area, call, more):
-    i, index, needs = "i", ", i: usize", f"(words ≤ length (now s)) × (i < {area.name} .size)"
+    given = "s.old" if template is WRITER else "s.now"
+    i, index, needs = "i", ", i: usize", f"(words ≤ length {given}) × (i < {area.name}.size)"
     if area.words == "1":
-        i, index, needs = "0", "", "words ≤ length (now s)"
+        i, index, needs = "0", "", f"words ≤ length {given}"
     base = f"areas::{constant(area.name)}"
     body = fitted(f"{call}(", ["s", base, f"{base}_SIZE", i] + more, ")")
     return template.substitute(function=function, index=index, needs=needs, area=area.name, i=i, body=body)
@@ -240,51 +237,50 @@ SPECS_FILE = Template("""\
 -- The layout of the words: every area by its name, one behind the other, those that calls write most first.
 -- `areas::layout` and `areas::unranged` prove that the source has the same numbers.
 -- $written
-use Prim.Native.Nat.{ℕ, _+_, _-_}
-use mathlib.Core.List.{List, [], _∷_}
-use Rattle·store·specs.specs.Area.{Area, Range, _upto_, flat}
-use Rattle·store·specs.specs.Codes.{$codes}
-use Rattle·store·specs.specs.Limits.{$limits}
+use Rattle.std.specs.Prelude.{ℕ, ◌+◌, ◌-◌, List, [], ◌∷◌}
+use Rattle.store.specs.Area.{Area, Range, ◌upto◌, flat}
+use Rattle.store.specs.Codes.{$codes}
+use Rattle.store.specs.Limits.{$limits}
 
 -- an area of n words behind another
 abbrev pub behind : Area → ℕ → Area
-behind a n = record { base = a .base + a .size; size = n }
+behind a n = record { base = a.base + a.size; size = n }
 
 $areas
 
 -- n words of an area, from its word k on
 abbrev pub part : Area → ℕ → ℕ → Area
-part a k n = record { base = a .base + k; size = n }
+part a k n = record { base = a.base + k; size = n }
 
 -- where the lists of the singles begin
-abbrev pub singleStarts : Area
-singleStarts = part listStarts 0 versionSets
+abbrev pub single_starts : Area
+single_starts = part list_starts 0 version_sets
 
 -- how long they are
-abbrev pub singleLengths : Area
-singleLengths = part listLengths 0 versionSets
+abbrev pub single_lengths : Area
+single_lengths = part list_lengths 0 version_sets
 
 -- where the lists of the unions begin
-abbrev pub unionStarts : Area
-unionStarts = part listStarts versionSets unionLists
+abbrev pub union_starts : Area
+union_starts = part list_starts version_sets union_lists
 
 -- how long they are
-abbrev pub unionLengths : Area
-unionLengths = part listLengths versionSets unionLists
+abbrev pub union_lengths : Area
+union_lengths = part list_lengths version_sets union_lists
 
 -- how many words a store needs
 abbrev pub words : ℕ
-words = $last .base + $last .size
+words = $last.base + $last.size
 
 -- the areas from one to another
 abbrev pub region : Area → Area → Area
-region a b = record { base = a .base; size = b .base + b .size - a .base }
+region a b = record { base = a.base; size = b.base + b.size - a.base }
 
 $regions
 
 -- all that the walk reads but the assignment: settings, clauses and tables
-abbrev pub environmentRegion : Area
-environmentRegion = region $settings $last
+abbrev pub environment_region : Area
+environment_region = region $settings $last
 
 -- every area whose numbers have a range, with the largest number that a word of it may hold; for an activity that is "would pass 9"
 abbrev pub table : List Range
@@ -292,12 +288,12 @@ table =
     $table
 
 -- the areas whose words may be any u32, but for one number in the map
-abbrev pub unrangedOf : List ℕ
-unrangedOf = $unranged
+abbrev pub unranged_of : List ℕ
+unranged_of = $unranged
 
 -- each row's base, size and largest number, as the source has them
-abbrev pub layoutOf : List ℕ
-layoutOf = flat table
+abbrev pub layout_of : List ℕ
+layout_of = flat table
 """)
 
 
@@ -316,7 +312,7 @@ def specs_file():
         comment = region.holds if regions else f"what the calls of each module write. {capital(region.holds)}"
         regions.append(definition(comment, region.name, f"region {region.areas[0].name} {region.areas[-1].name}"))
     # The numbers that the parts name, and those of the areas.
-    named = {"versionSets", "unionLists"} | {a.words for a in AREAS} | {a.largest for a in AREAS}
+    named = {"version_sets", "union_lists"} | {a.words for a in AREAS} | {a.largest for a in AREAS}
     return SPECS_FILE.substitute(
         written=WRITTEN,
         codes=", ".join(code for code in CODES if code in named),
@@ -324,9 +320,9 @@ def specs_file():
         areas="\n\n".join(areas),
         last=AREAS[-1].name,
         regions="\n\n".join(regions),
-        settings=next(region.areas[0].name for region in REGIONS if region.name == "settingsRegion"),
+        settings=next(region.areas[0].name for region in REGIONS if region.name == "settings_region"),
         table="\n    ∷ ".join([f"{area.name} upto {area.largest}" for area in RANGED] + ["[]"]),
-        unranged=" ∷ ".join([f"{area.name} .base ∷ {area.name} .size" for area in UNRANGED] + ["words", "[]"]),
+        unranged=" ∷ ".join([f"{area.name}.base ∷ {area.name}.size" for area in UNRANGED] + ["words", "[]"]),
     )
 
 

@@ -38,8 +38,8 @@ sound-id i x w h s =
       ranges = ranged-beside clause_ids w refl s.ranges i x h;
       cells = λ v. rw (at_kept map clause_ids i v x w tt h) (s.cells v);
       tables = tabled-same (put clause_ids i x w) w (area_kept tables_region clause_ids i x w tt h) s.tables;
-      floor-trail = rw (at_kept sync_floor clause_ids i 0 x w tt h, at_kept trail_length clause_ids i 0 x w tt h) s.floor-trail;
-      floor-mirror = rw (at_kept sync_floor clause_ids i 0 x w tt h, at_kept mirror_length clause_ids i 0 x w tt h) s.floor-mirror;
+      floor_trail = rw (at_kept sync_floor clause_ids i 0 x w tt h, at_kept trail_length clause_ids i 0 x w tt h) s.floor_trail;
+      floor_mirror = rw (at_kept sync_floor clause_ids i 0 x w tt h, at_kept mirror_length clause_ids i 0 x w tt h) s.floor_mirror;
       index = rw (at_kept propagated clause_ids i 0 x w tt h, at_kept trail_length clause_ids i 0 x w tt h) s.index;
     }
 

@@ -1,5 +1,5 @@
 // Document 01's edges that are shown by running: the largest level, the largest rewritten condition and the last clause, one step beyond
-// each, and undo-until on one entry above its level.
+// each, and undo_until on one entry above its level.
 
 #![tactic(auto)]
 

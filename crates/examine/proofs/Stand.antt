@@ -137,8 +137,8 @@ module _ (w : List ℕ) (h : Sound w) (k : ℕ) (l : k < at clause_count 0 w) wh
       )
 
   -- the words after a drop stand for the queue without the clause
-  pub drop-is : queue_of (dropped w k) ≡ unmark (queue_of w) k
-  drop-is = λ i. record { mark = fun_ext (λ j. mark-dropped j (eqb j k) refl) i; cache = fun_ext cache-dropped i }
+  pub drop_is : queue_of (dropped w k) ≡ unmark (queue_of w) k
+  drop_is = λ i. record { mark = fun_ext (λ j. mark-dropped j (eqb j k) refl) i; cache = fun_ext cache-dropped i }
 
 -- a sound store that differs from another in the queue's region at most
 pub record Beside (s w : List ℕ) : Type 0 where
@@ -195,8 +195,8 @@ pub stands : (w : List ℕ) → Stands word_operations (env_of w) (assigned w) q
 unfolding finding_at
 stands w =
     record {
-      mark-is = λ s k l g. refl;
-      examine-is =
+      mark_is = λ s k l g. refl;
+      examine_is =
           λ s k l g.
           ap (λ (e : Environment). examine e (assigned s) (queue_of s) k) (env-beside s w g)
           ∙ ap (λ (a : ℕ → Value). examine (env_of w) a (queue_of s) k) (assigned-beside s w g);
@@ -205,7 +205,7 @@ stands w =
           fill_is s g.sound k
           ∙ ap (λ (e : Environment). fill e (assigned s) (queue_of s) k) (env-beside s w g)
           ∙ ap (λ (a : ℕ → Value). fill (env_of w) a (queue_of s) k) (assigned-beside s w g);
-      drop-is = λ s k l g. drop-is s g.sound k (clause-beside s w g k l);
+      drop_is = λ s k l g. drop_is s g.sound k (clause-beside s w g k l);
       fill_keeps = λ s k l g. beside-filled s w g k;
       drop_keeps = λ s k l g. beside-dropped s w g k l;
     }

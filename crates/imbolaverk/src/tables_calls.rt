@@ -1,6 +1,6 @@
 // Loading version sets, unions, disjunctions and condition nodes.
 ghost use Rattle.std.specs.Prelude.{◌≡◌};
-ghost use Rattle.imbolaverk.specs.Calls.{number_of, left_by, load-version-set, load-union, load-disjunction, load-condition};
+ghost use Rattle.imbolaverk.specs.Calls.{number_of, left_by, load_version_set, load_union, load_disjunction, load_condition};
 ghost use Rattle.tables.specs.Answer.{loaded_number};
 
 use tables::Loaded;
@@ -17,7 +17,7 @@ fn loaded_number(answer: Loaded) -> u32
 // Loads a version set with its name.
 #[unsafe(no_mangle)]
 pub extern "C" fn imb_load_version_set(s: &mut [u32], set: u32, name: u32) -> u32
-    ensures { (result ≡ number_of s.old (load-version-set set name)) × (s.new ≡ left_by s.old (load-version-set set name)) }
+    ensures { (result ≡ number_of s.old (load_version_set set name)) × (s.new ≡ left_by s.old (load_version_set set name)) }
 {
     loaded_number(tables::load_version_set(s, set, name))
 }
@@ -25,7 +25,7 @@ pub extern "C" fn imb_load_version_set(s: &mut [u32], set: u32, name: u32) -> u3
 // Loads a union of version sets.
 #[unsafe(no_mangle)]
 pub extern "C" fn imb_load_union(s: &mut [u32], union: u32, members: &[u32]) -> u32
-    ensures { (result ≡ number_of s.old (load-union union members.now)) × (s.new ≡ left_by s.old (load-union union members.now)) }
+    ensures { (result ≡ number_of s.old (load_union union members.now)) × (s.new ≡ left_by s.old (load_union union members.now)) }
 {
     loaded_number(tables::load_union(s, union, members))
 }
@@ -38,7 +38,7 @@ pub extern "C" fn imb_load_disjunction(
     variables: &[u32],
     signs: &[u32],
 ) -> u32
-    ensures { (result ≡ number_of s.old (load-disjunction disjunction variables.now signs.now)) × (s.new ≡ left_by s.old (load-disjunction disjunction variables.now signs.now)) }
+    ensures { (result ≡ number_of s.old (load_disjunction disjunction variables.now signs.now)) × (s.new ≡ left_by s.old (load_disjunction disjunction variables.now signs.now)) }
 {
     loaded_number(tables::load_disjunction(s, disjunction, variables, signs))
 }
@@ -52,7 +52,7 @@ pub extern "C" fn imb_load_condition(
     left: u32,
     right: u32,
 ) -> u32
-    ensures { (result ≡ number_of s.old (load-condition node kind left right)) × (s.new ≡ left_by s.old (load-condition node kind left right)) }
+    ensures { (result ≡ number_of s.old (load_condition node kind left right)) × (s.new ≡ left_by s.old (load_condition node kind left right)) }
 {
     loaded_number(tables::load_condition(s, node, kind, left, right))
 }

@@ -53,12 +53,12 @@ module _ (s w : List ℕ) (e : area tables_region s ≡ area tables_region w) wh
 
 -- a clause's words, by the clauses alone
 module _ (s w : List ℕ) (e : area clauses_region s ≡ area clauses_region w) where
-  pub clauses-same : at clause_count 0 s ≡ at clause_count 0 w
-  clauses-same = at_same clause_count clauses_region s w tt e 0
+  pub clauses_same : at clause_count 0 s ≡ at clause_count 0 w
+  clauses_same = at_same clause_count clauses_region s w tt e 0
 
   pub clause-same : (a : Area) → T (within a clauses_region) → (k : ℕ) → of_clause a s k ≡ of_clause a w k
   unfolding of_clause
-  clause-same a t k = rw (clauses-same, at_same a clauses_region s w t e k)
+  clause-same a t k = rw (clauses_same, at_same a clauses_region s w t e k)
 
 -- the clauses and tables of w, with other settings
 module _ (s w : List ℕ) (c : area clauses_region s ≡ area clauses_region w) (t : area tables_region s ≡ area tables_region w) where
@@ -66,7 +66,7 @@ module _ (s w : List ℕ) (c : area clauses_region s ≡ area clauses_region w) 
   env-tuned f h m r a b d g =
       λ i.
       record {
-        size = clauses-same s w c i;
+        size = clauses_same s w c i;
         parent = fun_ext (clause-same s w c clause_parents tt) i;
         requirement = fun_ext (clause-same s w c clause_requirements tt) i;
         condition = fun_ext (λ k. literals-same s w t (of_clause clause_conditions s k) ∙ ap (literals_at w) (clause-same s w c clause_conditions tt k)) i;
@@ -111,12 +111,12 @@ cache-same s w e key =
 
 -- the queue
 module _ (s w : List ℕ) (e : area queue_region s ≡ area queue_region w) where
-  pub mark-same : at clause_count 0 s ≡ at clause_count 0 w → (k : ℕ) → mark_of s k ≡ mark_of w k
+  pub mark_same : at clause_count 0 s ≡ at clause_count 0 w → (k : ℕ) → mark_of s k ≡ mark_of w k
   unfolding mark_of of_clause
-  mark-same n k = rw (n, at_same queued queue_region s w tt e k)
+  mark_same n k = rw (n, at_same queued queue_region s w tt e k)
 
   pub queue-same : at clause_count 0 s ≡ at clause_count 0 w → queue_of s ≡ queue_of w
-  queue-same n = λ i. record { mark = fun_ext (mark-same n) i; cache = fun_ext (cache-same s w (area_same caches_region queue_region s w tt e)) i }
+  queue-same n = λ i. record { mark = fun_ext (mark_same n) i; cache = fun_ext (cache-same s w (area_same caches_region queue_region s w tt e)) i }
 
 -- the trail, by its length and its entries
 pub entry_by : (s w : List ℕ) (k : ℕ) → at trail_variables k s ≡ at trail_variables k w → at trail_values k s ≡ at trail_values k w → entry_at s k ≡ entry_at w k

@@ -37,15 +37,15 @@ env_but_mode : (w u : List ℕ) → SameButMode w u → env_of w ≡ in_mode (en
 env_but_mode w u s =
     λ i.
     record {
-      size = s.clauses-same.counts i;
-      parent = fun_ext s.clauses-same.parents i;
-      requirement = fun_ext s.clauses-same.requirements-same i;
-      condition = fun_ext s.clauses-same.conditions i;
-      clause_id = fun_ext s.clauses-same.ids i;
-      lists = fun_ext s.tables-same i;
-      activity = fun_ext s.activities-same i;
+      size = s.clauses_same.counts i;
+      parent = fun_ext s.clauses_same.parents i;
+      requirement = fun_ext s.clauses_same.requirements_same i;
+      condition = fun_ext s.clauses_same.conditions i;
+      clause_id = fun_ext s.clauses_same.ids i;
+      lists = fun_ext s.tables_same i;
+      activity = fun_ext s.activities_same i;
       names = names;
-      hot = fun_ext (λ n. ap (λ x. eqb x 1) (s.hot-same n)) i;
+      hot = fun_ext (λ n. ap (λ x. eqb x 1) (s.hot_same n)) i;
       standard = (env_of w).standard;
       rule = 1;
     }
@@ -61,7 +61,7 @@ pub one_proposal : (w u : List ℕ) → ReachedWords w → ReachedWords u → un
     walk (in_mode (env_of u) (env_of w).standard) (assigned u) ≡ walk (env_of u) (assigned u) → undropped (answer_any w (proposal_row w)) ≡ undropped (answer_any u (proposal_row u))
 one_proposal w u r q x y s e =
     rw (demand2 w r x, demand2 u q y)
-    (told_same w u s.clauses-same (walk (env_of w) (assigned w)) (answer w).drops (answer u).drops
+    (told_same w u s.clauses_same (walk (env_of w) (assigned w)) (answer w).drops (answer u).drops
     ∙ ap (λ (o : Out). undropped (told u o (answer u).drops))
     (ap (λ (f : Environment). walk f (assigned w)) (env_but_mode w u s)
     ∙ ap (λ (a : ℕ → Value). walk (in_mode (env_of u) (env_of w).standard) a) (fun_ext s.assignments_same)
@@ -70,7 +70,7 @@ one_proposal w u r q x y s e =
 -- DEMAND 3: the proposal of a reached and synced store depends on the six things alone, and on no history
 pub demand3 : (w u : List ℕ) → ReachedWords w → ReachedWords u → unsynced w ≡ false → unsynced u ≡ false → SameSix w u → undropped (answer_any w (proposal_row w)) ≡ undropped (answer_any u (proposal_row u))
 demand3 w u r q x y s =
-    one_proposal w u r q x y s.but_mode (ap (λ (m : ℕ). walk (in_mode (env_of u) (eqb m 1)) (assigned u)) s.mode-same)
+    one_proposal w u r q x y s.but_mode (ap (λ (m : ℕ). walk (in_mode (env_of u) (eqb m 1)) (assigned u)) s.mode_same)
 
 -- THE BUTTON COMES BACK: she sees a proposal, then accepts, tries, asks and takes back, in any calls, refused ones included; once the six
 -- things are as they were and the store is synced, the proposal that she left is there again

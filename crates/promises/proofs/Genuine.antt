@@ -26,7 +26,7 @@ pub record Mapped (w : List ℕ) : Type 0 where
 -- a table's version sets, a union's members and a clause's condition are loaded; the literals of a loaded disjunction are counted
 pub record AllLoaded (w : List ℕ) : Type 0 where
   pub singles : (v : ℕ) → v < version_sets → at tables_loaded v w ≢ 0 → at set_names v w ≢ 0
-  pub unions-known : (u : ℕ) → u < unions → at tables_loaded (version_sets + u) w ≢ 0 → at union_sizes u w ≢ 0
+  pub unions_known : (u : ℕ) → u < unions → at tables_loaded (version_sets + u) w ≢ 0 → at union_sizes u w ≢ 0
   pub members : (u j : ℕ) → u < unions → j < at union_sizes u w - 1 → at set_names (at union_sets (union_room * u + j) w) w ≢ 0
   pub conditions : (k : ℕ) → k < at clause_count 0 w → at clause_conditions k w ≢ 0 → at disjunction_sizes (at clause_conditions k w - 1) w ≢ 0
   pub literals : (d : ℕ) → at disjunction_sizes d w ≢ 0 → at disjunction_starts d w + (at disjunction_sizes d w - 1) ≤ at literal_count 0 w
@@ -34,7 +34,7 @@ pub record AllLoaded (w : List ℕ) : Type 0 where
 pub record Genuine (w : List ℕ) : Type 0 where
   pub sound : Sound w
   pub mapped : Mapped w
-  pub all-loaded : AllLoaded w
+  pub all_loaded : AllLoaded w
   pub reached : Reached (store_of w)
 
 -- what is outside the trail's region does not matter to the map
@@ -54,7 +54,7 @@ module _ (s w : List ℕ) where
   all-loaded_by_tables e r c =
       record {
         singles = λ v l h. rw (here set_names tt v) (r.singles v l (rw (here tables_loaded tt v) at h));
-        unions-known = λ u l h. rw (here union_sizes tt u) (r.unions-known u l (rw (here tables_loaded tt (version_sets + u)) at h));
+        unions_known = λ u l h. rw (here union_sizes tt u) (r.unions_known u l (rw (here tables_loaded tt (version_sets + u)) at h));
         members =
             λ u j l h.
             rw (here union_sets tt (union_room * u + j), here set_names tt (at union_sets (union_room * u + j) w))

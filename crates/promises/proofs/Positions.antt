@@ -17,7 +17,7 @@ use Rattle.promises.proofs.Clauses.{by_outside, load_candidates-clauses, load_co
 use Rattle.promises.proofs.Genuine.{Genuine}
 use Rattle.promises.proofs.Registering.{register_is}
 use Rattle.promises.proofs.Starting.{fresh_genuine, fresh_is}
-use Rattle.imbolaverk.specs.Calls.{Call, fresh, load-version-set, load-union, load-candidates, load-disjunction, load-condition, register, mark-hot, set-activity, set-mode, assign, undo-last, undo-until, next-unpropagated, sync, propose, ReachedWords, left_by, run, ask}
+use Rattle.imbolaverk.specs.Calls.{Call, fresh, load_version_set, load_union, load_candidates, load_disjunction, load_condition, register, mark_hot, set_activity, set_mode, assign, undo_last, undo_until, next_unpropagated, sync, propose, ReachedWords, left_by, run, ask}
 use Rattle.promises.specs.History.{filing, filings, history_of, if_made, if_registered}
 use Rattle.promises.specs.Six.{SameClauses}
 use Rattle.requirement.specs.Tables.{key_at}
@@ -45,7 +45,7 @@ stays s w h c p =
     record {
       size_is = c.counts ∙ p.size_is;
       parents_are = (λ i. from (fun_ext c.parents i) 0 (c.counts i)) ∙ p.parents_are;
-      requirements_are = (λ i. from (fun_ext c.requirements-same i) 0 (c.counts i)) ∙ p.requirements_are;
+      requirements_are = (λ i. from (fun_ext c.requirements_same i) 0 (c.counts i)) ∙ p.requirements_are;
       conditions_are = (λ i. from (fun_ext c.conditions i) 0 (c.counts i)) ∙ p.conditions_are;
       clause_ids_are = (λ i. from (fun_ext c.ids i) 0 (c.counts i)) ∙ p.clause_ids_are;
     }
@@ -81,19 +81,19 @@ register_follows w parent kind requirement condition clause h g f =
 call_follows : (w : List ℕ) (c : Call) (h : History) → Genuine w → Follows w h → Follows (left_by w c) (filing w c h)
 unfolding filing
 call_follows w fresh h g f = fresh-follows w g.sound.long h
-call_follows w (load-version-set set name) h g f = stays _ w h (load_version_set_clauses w g set name) f
-call_follows w (load-union union members) h g f = stays _ w h (load_union_clauses w g union members) f
-call_follows w (load-candidates kind id lengths cells) h g f = stays _ w h (load_candidates-clauses w g kind id lengths cells) f
-call_follows w (load-disjunction disjunction vs signs) h g f = stays _ w h (load_disjunction_clauses w g disjunction vs signs) f
-call_follows w (load-condition node kind left right) h g f = stays _ w h (load_condition-clauses w g node kind left right) f
+call_follows w (load_version_set set name) h g f = stays _ w h (load_version_set_clauses w g set name) f
+call_follows w (load_union union members) h g f = stays _ w h (load_union_clauses w g union members) f
+call_follows w (load_candidates kind id lengths cells) h g f = stays _ w h (load_candidates-clauses w g kind id lengths cells) f
+call_follows w (load_disjunction disjunction vs signs) h g f = stays _ w h (load_disjunction_clauses w g disjunction vs signs) f
+call_follows w (load_condition node kind left right) h g f = stays _ w h (load_condition-clauses w g node kind left right) f
 call_follows w (register parent kind requirement condition clause) h g f = register_follows w parent kind requirement condition clause h g f
-call_follows w (mark-hot name) h g f = stays _ w h (by_outside w (mark-hot name) (tt, tt) (tt, tt)) f
-call_follows w (set-activity name activity fit) h g f = stays _ w h (by_outside w (set-activity name activity fit) (tt, tt) (tt, tt)) f
-call_follows w (set-mode mode) h g f = stays _ w h (by_outside w (set-mode mode) (tt, tt) (tt, tt)) f
+call_follows w (mark_hot name) h g f = stays _ w h (by_outside w (mark_hot name) (tt, tt) (tt, tt)) f
+call_follows w (set_activity name activity fit) h g f = stays _ w h (by_outside w (set_activity name activity fit) (tt, tt) (tt, tt)) f
+call_follows w (set_mode mode) h g f = stays _ w h (by_outside w (set_mode mode) (tt, tt) (tt, tt)) f
 call_follows w (assign variable value level clause) h g f = stays _ w h (by_outside w (assign variable value level clause) (tt, tt) (tt, tt)) f
-call_follows w undo-last h g f = stays _ w h (by_outside w undo-last (tt, tt) (tt, tt)) f
-call_follows w (undo-until level) h g f = stays _ w h (by_outside w (undo-until level) (tt, tt) (tt, tt)) f
-call_follows w next-unpropagated h g f = stays _ w h (by_outside w next-unpropagated (tt, tt) (tt, tt)) f
+call_follows w undo_last h g f = stays _ w h (by_outside w undo_last (tt, tt) (tt, tt)) f
+call_follows w (undo_until level) h g f = stays _ w h (by_outside w (undo_until level) (tt, tt) (tt, tt)) f
+call_follows w next_unpropagated h g f = stays _ w h (by_outside w next_unpropagated (tt, tt) (tt, tt)) f
 call_follows w sync h g f = stays _ w h (by_outside w sync (tt, (tt, (tt, tt))) (tt, (tt, (tt, tt)))) f
 call_follows w propose h g f = stays _ w h (by_outside w propose (tt, tt) (tt, tt)) f
 call_follows w (ask q) h g f = f
@@ -135,10 +135,10 @@ module _ (w u : List ℕ) (r : ReachedWords w) (q : ReachedWords u) (h : SameHis
   same_positions =
       record {
         counts = counted;
-        parents = by_rank_lem _ _ (here.parents_are ∙ h.parents-same ∙ sym there.parents_are) (none-there clause_parents);
-        requirements-same = by_rank_lem _ _ (here.requirements_are ∙ h.requirements-same ∙ sym there.requirements_are) (none-there clause_requirements);
+        parents = by_rank_lem _ _ (here.parents_are ∙ h.parents_same ∙ sym there.parents_are) (none-there clause_parents);
+        requirements_same = by_rank_lem _ _ (here.requirements_are ∙ h.requirements_same ∙ sym there.requirements_are) (none-there clause_requirements);
         conditions =
-            by_rank_lem _ _ (here.conditions_are ∙ h.conditions-same ∙ sym there.conditions_are)
+            by_rank_lem _ _ (here.conditions_are ∙ h.conditions_same ∙ sym there.conditions_are)
             (λ k l. rw (clause-none clause_conditions w k l, clause-none clause_conditions u k (rw counted at l)));
-        ids = by_rank_lem _ _ (here.clause_ids_are ∙ h.clause_ids-same ∙ sym there.clause_ids_are) (none-there clause_ids);
+        ids = by_rank_lem _ _ (here.clause_ids_are ∙ h.clause_ids_same ∙ sym there.clause_ids_are) (none-there clause_ids);
       }

@@ -171,7 +171,7 @@ module _ (w : List ℕ) (parent key condition clause : ℕ) (p : Placed w parent
       record {
         sound = registered-sound w parent key condition clause p h;
         mapped = mapped_frame left w (kept trail_region tt tt) g.mapped;
-        all-loaded = all-loaded-left g.all-loaded;
+        all_loaded = all-loaded-left g.all_loaded;
         reached = subst Reached (sym (register_is g.mapped)) (then g.reached (registers parent key (literals_at w (condition_word condition)) clause));
       }
 

@@ -5,7 +5,7 @@ use mathlib.Core.Path.{◌≡◌, refl, sym, subst}
 use Prim.Native.Nat.{ℕ}
 use lib.Dec.{T}
 use lib.Ieee.{Float, binary32, fits}
-use Rattle.meaning.proofs.Frames.{clauses-same, env-tuned, mirror-same, queue-same, trail-same}
+use Rattle.meaning.proofs.Frames.{clauses_same, env-tuned, mirror-same, queue-same, trail-same}
 use Rattle.meaning.specs.Standing.{env_of, store_of}
 use Rattle.promises.proofs.Genuine.{Genuine, mapped_frame, all-loaded-same}
 use Rattle.rules.specs.Store.{Reached, then, tuned, tunes}
@@ -28,7 +28,7 @@ module _ (s w : List ℕ) (out : (a : Area) → T (apart a settings_region) → 
         trail = trail-same s w (out trail_region tt) i;
         mirror = mirror-same s w (out mirror_region tt) i;
         floor = at_same sync_floor trail_region s w tt (out trail_region tt) 0 i;
-        queue = queue-same s w (out queue_region tt) (clauses-same s w (out clauses_region tt)) i;
+        queue = queue-same s w (out queue_region tt) (clauses_same s w (out clauses_region tt)) i;
       }
 
   tuned-genuine : Sound s → Genuine w → Genuine s
@@ -36,7 +36,7 @@ module _ (s w : List ℕ) (out : (a : Area) → T (apart a settings_region) → 
       record {
         sound = h;
         mapped = mapped_frame s w (out trail_region tt) g.mapped;
-        all-loaded = all-loaded-same s w (out clauses_region tt) (out tables_region tt) g.all-loaded;
+        all_loaded = all-loaded-same s w (out clauses_region tt) (out tables_region tt) g.all_loaded;
         reached = subst Reached (sym store-tuned) (then g.reached (tunes (env_of s).activity (env_of s).hot (env_of s).standard (env_of s).rule));
       }
 

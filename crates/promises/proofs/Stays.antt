@@ -38,7 +38,7 @@ pub record SetsStay (s w : List ℕ) : Type 0 where
   pub names_stay : (v : ℕ) → at set_names v w ≢ 0 → at set_names v s ≡ at set_names v w
   pub sizes_stay : (u : ℕ) → at union_sizes u w ≢ 0 → at union_sizes u s ≡ at union_sizes u w
   pub members_stay : (u j : ℕ) → u < unions → j < at union_sizes u w - 1 → at union_sets (union_room * u + j) s ≡ at union_sets (union_room * u + j) w
-  pub new-members : (u j : ℕ) → u < unions → at union_sizes u w ≡ 0 → j < at union_sizes u s - 1 → at set_names (at union_sets (union_room * u + j) s) w ≢ 0
+  pub new_members : (u j : ℕ) → u < unions → at union_sizes u w ≡ 0 → j < at union_sizes u s - 1 → at set_names (at union_sets (union_room * u + j) s) w ≢ 0
 
 -- candidate tables too, and the version set or the union of a new one is loaded
 pub record TablesStay (s w : List ℕ) : Type 0 where
@@ -53,7 +53,7 @@ pub record LiteralsStay (s w : List ℕ) : Type 0 where
   pub spans_stay : (d : ℕ) → at disjunction_sizes d w ≢ 0 → at disjunction_sizes d s ≡ at disjunction_sizes d w
   pub literals_stay : (i : ℕ) → i < at literal_count 0 w → literal_at s i ≡ literal_at w i
   pub count_grows : at literal_count 0 w ≤ at literal_count 0 s
-  pub new-literals : (d : ℕ) → at disjunction_sizes d w ≡ 0 → at disjunction_sizes d s ≢ 0 → at disjunction_starts d s + (at disjunction_sizes d s - 1) ≤ at literal_count 0 s
+  pub new_literals : (d : ℕ) → at disjunction_sizes d w ≡ 0 → at disjunction_sizes d s ≢ 0 → at disjunction_starts d s + (at disjunction_sizes d s - 1) ≤ at literal_count 0 s
 
 -- all of that, and the words outside the tables
 pub record Stays (s w : List ℕ) : Type 0 where
@@ -70,7 +70,7 @@ module _ (s w : List ℕ) where
         names_stay = λ v h. here set_names tt v;
         sizes_stay = λ u h. here union_sizes tt u;
         members_stay = λ u j l h. here union_sets tt (union_room * u + j);
-        new-members = λ u j l z h. absurd (omega (arith, here union_sizes tt u));
+        new_members = λ u j l z h. absurd (omega (arith, here union_sizes tt u));
       }
     where
       here : (a : Area) → T (within a sets_region) → (i : ℕ) → at a i s ≡ at a i w
@@ -99,7 +99,7 @@ module _ (s w : List ℕ) where
         spans_stay = λ d h. here disjunction_sizes tt d;
         literals_stay = λ i h. rw (here literal_variables tt i, here literal_signs tt i);
         count_grows = omega (arith, here literal_count tt 0);
-        new-literals = λ d z h. absurd (h (here disjunction_sizes tt d ∙ z));
+        new_literals = λ d z h. absurd (h (here disjunction_sizes tt d ∙ z));
       }
     where
       here : (a : Area) → T (within a literals_region) → (i : ℕ) → at a i s ≡ at a i w
@@ -130,7 +130,7 @@ module _ (s w : List ℕ) (sets : SetsStay s w) (tables : TablesStay s w) (r : A
   pub union_known : version_sets ≤ key → at union_sizes (key - version_sets) w ≢ 0
   union_known h =
       let e : version_sets + (key - version_sets) ≡ key = omega arith in
-      r.unions-known (key - version_sets) (omega (arith, key<)) (rw e l)
+      r.unions_known (key - version_sets) (omega (arith, key<)) (rw e l)
 
   count-stays : list_count s key ≡ list_count w key
   unfolding list_count set_count
@@ -279,18 +279,18 @@ module _ (s w : List ℕ) (stays : Stays s w) (r : AllLoaded w) where
             (λ (e : at tables_loaded v w ≡ 0). stays.tables.new_single v l e h)
             (λ (e : at tables_loaded v w ≡ 0 → ⊥). r.singles v l e)
             (eq_or (at tables_loaded v w) 0));
-        unions-known =
+        unions_known =
             λ u l h.
             sized-stays u
             (⊎_elim
             (λ (e : at tables_loaded (version_sets + u) w ≡ 0). stays.tables.new_union u l e h)
-            (λ (e : at tables_loaded (version_sets + u) w ≡ 0 → ⊥). r.unions-known u l e)
+            (λ (e : at tables_loaded (version_sets + u) w ≡ 0 → ⊥). r.unions_known u l e)
             (eq_or (at tables_loaded (version_sets + u) w) 0));
         members =
             λ u j l h.
             named-stays (at union_sets (union_room * u + j) s)
             (⊎_elim
-            (λ (e : at union_sizes u w ≡ 0). stays.sets.new-members u j l e h)
+            (λ (e : at union_sizes u w ≡ 0). stays.sets.new_members u j l e h)
             (λ (e : at union_sizes u w ≡ 0 → ⊥).
             let k = rw (stays.sets.sizes_stay u e) at h in
             rw (stays.sets.members_stay u j l k) (r.members u j l k))
@@ -302,7 +302,7 @@ module _ (s w : List ℕ) (stays : Stays s w) (r : AllLoaded w) where
         literals =
             λ d h.
             ⊎_elim
-            (λ (e : at disjunction_sizes d w ≡ 0). stays.literals.new-literals d e h)
+            (λ (e : at disjunction_sizes d w ≡ 0). stays.literals.new_literals d e h)
             (λ (e : at disjunction_sizes d w ≡ 0 → ⊥).
             rw (stays.literals.starts_stay d e, stays.literals.spans_stay d e) (omega (arith, r.literals d e, stays.literals.count_grows)))
             (eq_or (at disjunction_sizes d w) 0);
@@ -314,6 +314,6 @@ genuine_stays s w g sound stays reached =
     record {
       sound = sound;
       mapped = mapped_frame s w (stays.beside trail_region tt) g.mapped;
-      all-loaded = all-loaded-stays s w stays g.all-loaded;
+      all_loaded = all-loaded-stays s w stays g.all_loaded;
       reached = reached;
     }

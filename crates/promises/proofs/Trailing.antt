@@ -54,7 +54,7 @@ module _ (s w : List ℕ) (out : (a : Area) → T (apart a trail_region) → are
       record {
         sound = sound;
         mapped = mapped;
-        all-loaded = all-loaded_frame s w (out environment_region tt) g.all-loaded;
+        all_loaded = all-loaded_frame s w (out environment_region tt) g.all_loaded;
         reached = subst Reached (sym (store-trailed trail floor e f)) (then g.reached step);
       }
 

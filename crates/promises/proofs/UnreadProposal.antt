@@ -3,7 +3,7 @@ use mathlib.Core.Bool.{not}
 use mathlib.Core.List.{List}
 use mathlib.Core.Path.{◌≡◌, refl, ap, subst}
 use Prim.Native.Nat.{ℕ}
-use Rattle.meaning.proofs.Frames.{assigned-same, cache-same, caches_region, clause-same, env-same, lists-same, mark-same, queue-same}
+use Rattle.meaning.proofs.Frames.{assigned-same, cache-same, caches_region, clause-same, env-same, lists-same, mark_same, queue-same}
 use Rattle.meaning.specs.Standing.{cache_of, env_of, mark_of, of_clause, queue_of}
 use Rattle.meaning.specs.View.{lists_at}
 use Rattle.examine.specs.Cache.{cache_writes, cached, clause_key, filled, refreshed, saved, finding_at, word_operations}
@@ -50,7 +50,7 @@ module _ (w u : List ℕ) (e : Alike w u) where
   queue_alike = queue-same w u (area_alike w u e queue_region refl) (at_alike w u e clause_count 0 refl)
 
   mark-alike : (k : ℕ) → mark_of w k ≡ mark_of u k
-  mark-alike = mark-same w u (area_alike w u e queue_region refl) (at_alike w u e clause_count 0 refl)
+  mark-alike = mark_same w u (area_alike w u e queue_region refl) (at_alike w u e clause_count 0 refl)
 
   seen_alike : (k : ℕ) → finding_at w k ≡ finding_at u k
   unfolding finding_at
@@ -78,10 +78,10 @@ module _ (w u : List ℕ) (e : Alike w u) where
 steps_alike : (v : Environment) → Follows word_operations word_operations v Alike
 steps_alike v =
     record {
-      mark-same = λ s q k l r. mark-alike s q r k;
-      examine-same = λ s q k l r. seen_alike s q r k;
-      fill-same = λ s q k l r. filled-alike s q r k;
-      drop-same = λ s q k l r. put_alike queued k 0 s q r;
+      mark_same = λ s q k l r. mark-alike s q r k;
+      examine_same = λ s q k l r. seen_alike s q r k;
+      fill_same = λ s q k l r. filled-alike s q r k;
+      drop_same = λ s q k l r. put_alike queued k 0 s q r;
     }
 
 -- the same answer, the same drops, and words that are alike

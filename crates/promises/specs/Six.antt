@@ -13,22 +13,22 @@ use Rattle.trail.specs.Assignment.{assigned}
 pub record SameClauses (w u : List ℕ) : Type 0 where
   pub counts : at clause_count 0 w ≡ at clause_count 0 u
   pub parents : (k : ℕ) → of_clause clause_parents w k ≡ of_clause clause_parents u k
-  pub requirements-same : (k : ℕ) → of_clause clause_requirements w k ≡ of_clause clause_requirements u k
+  pub requirements_same : (k : ℕ) → of_clause clause_requirements w k ≡ of_clause clause_requirements u k
   pub conditions : (k : ℕ) → literals_at w (of_clause clause_conditions w k) ≡ literals_at u (of_clause clause_conditions u k)
   pub ids : (k : ℕ) → of_clause clause_ids w k ≡ of_clause clause_ids u k
 
 -- all but the mode
 pub record SameButMode (w u : List ℕ) : Type 0 where
-  pub clauses-same : SameClauses w u
-  pub tables-same : (key : ℕ) → lists_at w key ≡ lists_at u key
-  pub activities-same : (name : ℕ) → at activities name w ≡ at activities name u
-  pub hot-same : (name : ℕ) → at hot_names name w ≡ at hot_names name u
+  pub clauses_same : SameClauses w u
+  pub tables_same : (key : ℕ) → lists_at w key ≡ lists_at u key
+  pub activities_same : (name : ℕ) → at activities name w ≡ at activities name u
+  pub hot_same : (name : ℕ) → at hot_names name w ≡ at hot_names name u
   pub assignments_same : (variable : ℕ) → assigned w variable ≡ assigned u variable
 
 -- all six
 pub record SameSix (w u : List ℕ) : Type 0 where
   pub but_mode : SameButMode w u
-  pub mode-same : at mode 0 w ≡ at mode 0 u
+  pub mode_same : at mode 0 w ≡ at mode 0 u
 
 -- "drop count aside"
 abbrev pub undropped : Proposal → Proposal

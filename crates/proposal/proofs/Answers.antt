@@ -33,6 +33,6 @@ module _ (w : List ℕ) (h : Sound w) where
   synced_store e =
       let p = neither (ltb (at sync_floor 0 w) (at mirror_length 0 w)) (ltb (at mirror_length 0 w) (at trail_length 0 w)) e in
       record {
-        none-popped = rw (length_mirror w h) (ltb-false (at sync_floor 0 w) (at mirror_length 0 w) p.0);
-        none-pushed = rw (length_mirror w h, length_trail w) (ltb-false (at mirror_length 0 w) (at trail_length 0 w) p.1);
+        none_popped = rw (length_mirror w h) (ltb-false (at sync_floor 0 w) (at mirror_length 0 w) p.0);
+        none_pushed = rw (length_mirror w h, length_trail w) (ltb-false (at mirror_length 0 w) (at trail_length 0 w) p.1);
       }

@@ -27,8 +27,8 @@ pub record Held (w s : List ℕ) (key place : ℕ) (lengths cells : List ℕ) : 
   pub starts_else : (i : ℕ) → NoneOf (first_slot key) (length lengths) i → at list_starts i s ≡ at list_starts i w
   pub lengths_else : (i : ℕ) → NoneOf (first_slot key) (length lengths) i → at list_lengths i s ≡ at list_lengths i w
   pub cells_at : (i : ℕ) → i < length cells → at candidates (place + i) s ≡ get_or cells i 0
-  pub cells-before : (i : ℕ) → i < place → at candidates i s ≡ at candidates i w
-  pub cells-behind : (i : ℕ) → place + length cells ≤ i → at candidates i s ≡ at candidates i w
+  pub cells_before : (i : ℕ) → i < place → at candidates i s ≡ at candidates i w
+  pub cells_behind : (i : ℕ) → place + length cells ≤ i → at candidates i s ≡ at candidates i w
   pub marked : at tables_loaded key s ≡ 1
   pub marked_else : (k : ℕ) → k ≢ key → at tables_loaded k s ≡ at tables_loaded k w
 
@@ -112,8 +112,8 @@ module _ (w : List ℕ) (key place : ℕ) (lengths cells : List ℕ) (roomy : Ro
               ∙ length_else (first_slot key) place lengths run i roomy.slots f
               ∙ at-run_kept list_lengths candidates place cells w i tt fits;
           cells_at = λ i h. count candidates (place + i) t ∙ in_cells (place + i) ∙ at-run candidates place cells w i (omega (arith, roomy.long)) fits h;
-          cells-before = λ i h. count candidates i t ∙ in_cells i ∙ at-run-before candidates place cells w i fits h;
-          cells-behind = λ i h. count candidates i t ∙ in_cells i ∙ at-run-behind candidates place cells w i fits h;
+          cells_before = λ i h. count candidates i t ∙ in_cells i ∙ at-run-before candidates place cells w i fits h;
+          cells_behind = λ i h. count candidates i t ∙ in_cells i ∙ at-run-behind candidates place cells w i fits h;
           marked = count tables_loaded key u ∙ at-put-same tables_loaded key 1 rows roomy.key< (omega (arith, rows_long));
           marked_else =
               λ k n.

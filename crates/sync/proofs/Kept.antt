@@ -65,7 +65,7 @@ module _ (w : List ℕ) (h : Sound w) where
   length_new = length_from (λ k. at trail_variables k w) (at sync_floor 0 w) (at trail_length 0 w - at sync_floor 0 w)
 
   pub copies_fit : at sync_floor 0 w + length (new_entries w) ≤ trail_room
-  copies_fit = omega (arith, length_new, short, h.floor-trail)
+  copies_fit = omega (arith, length_new, short, h.floor_trail)
 
   pub new_in_range : every (up_to last_variable) (new_entries w) ≡ true
   unfolding new_entries
@@ -119,8 +119,8 @@ module _ (w : List ℕ) (h : Sound w) where
             (ranged-run mirror last_variable (at sync_floor 0 w) (new_entries w) w tt copies_fit new_in_range h.ranges));
         cells = λ v. rw (mirrored_at map tt tt tt v) (h.cells v);
         tables = tabled-same (mirrored_words w) w (mirrored_area tables_region tt tt tt) h.tables;
-        floor-trail = rw (new-floor, mirrored_at trail_length tt tt tt 0) (omega arith);
-        floor-mirror = rw (new-floor, new_length) (omega arith);
+        floor_trail = rw (new-floor, mirrored_at trail_length tt tt tt 0) (omega arith);
+        floor_mirror = rw (new-floor, new_length) (omega arith);
         index = rw (mirrored_at propagated tt tt tt 0, mirrored_at trail_length tt tt tt 0) h.index;
       }
 

@@ -34,13 +34,13 @@ module _ (w : List ℕ) (h : Sound w) where
   unfolding old_entries
   old-is =
       ap (drop (at sync_floor 0 w)) mirror-from
-      ∙ drop-from (λ k. at mirror k w) (at sync_floor 0 w) 0 (at mirror_length 0 w) h.floor-mirror
+      ∙ drop-from (λ k. at mirror k w) (at sync_floor 0 w) 0 (at mirror_length 0 w) h.floor_mirror
       ∙ rw (zero-add (at sync_floor 0 w))
 
   new_is : variables (drop (at sync_floor 0 w) (trail_of w)) ≡ new_entries w
   unfolding new_entries trail_of
   new_is =
-      ap variables (drop-from (entry_at w) (at sync_floor 0 w) 0 (at trail_length 0 w) h.floor-trail)
+      ap variables (drop-from (entry_at w) (at sync_floor 0 w) 0 (at trail_length 0 w) h.floor_trail)
       ∙ rw (zero-add (at sync_floor 0 w)) (variables-from w (at sync_floor 0 w) (at trail_length 0 w - at sync_floor 0 w))
 
   -- what is touched is what the rules say
@@ -51,7 +51,7 @@ module _ (w : List ℕ) (h : Sound w) where
   -- "the mirror's length plus the trail's, less twice the floor"
   pub touches_are : touches_in w ≡ length (mirror_of w) + length (trail_of w) - 2 * at sync_floor 0 w
   unfolding touches_in
-  touches_are = rw (length_mirror w h, length_trail w) (omega (arith, h.floor-mirror, h.floor-trail))
+  touches_are = rw (length_mirror w h, length_trail w) (omega (arith, h.floor_mirror, h.floor_trail))
 
 -- THE NEW MIRROR
 module _ (w : List ℕ) (h : Sound w) where
@@ -81,7 +81,7 @@ module _ (w : List ℕ) (h : Sound w) where
   mirror-front : from (λ k. at mirror k (mirrored_words w)) 0 (at sync_floor 0 w) ≡ take (at sync_floor 0 w) (mirror_of w)
   mirror-front =
       from_agree (λ k. at mirror k (mirrored_words w)) (λ k. at mirror k w) 0 (at sync_floor 0 w) (λ k a b. mirror-low k (omega arith))
-      ∙ sym (take_from (λ k. at mirror k w) (at sync_floor 0 w) 0 (at mirror_length 0 w) h.floor-mirror)
+      ∙ sym (take_from (λ k. at mirror k w) (at sync_floor 0 w) 0 (at mirror_length 0 w) h.floor_mirror)
       ∙ ap (take (at sync_floor 0 w)) (sym (mirror-from w h))
 
   mirror-rest : from (λ k. at mirror k (mirrored_words w)) (0 + at sync_floor 0 w) (at trail_length 0 w - at sync_floor 0 w) ≡ variables (drop (at sync_floor 0 w) (trail_of w))
@@ -89,12 +89,12 @@ module _ (w : List ℕ) (h : Sound w) where
   mirror-rest =
       rw (zero-add (at sync_floor 0 w))
       (from_agree (λ k. at mirror k (mirrored_words w)) (λ k. at trail_variables k w) (at sync_floor 0 w) (at trail_length 0 w - at sync_floor 0 w)
-      (λ k a b. mirror-high k a (omega (arith, h.floor-trail)))
+      (λ k a b. mirror-high k a (omega (arith, h.floor_trail)))
       ∙ sym (new_is w h))
 
-  pub mirror-is : mirror_of (mirrored_words w) ≡ take (at sync_floor 0 w) (mirror_of w) ++ variables (drop (at sync_floor 0 w) (trail_of w))
-  mirror-is =
-      let e : at trail_length 0 w ≡ at sync_floor 0 w + (at trail_length 0 w - at sync_floor 0 w) = omega (arith, h.floor-trail) in
+  pub mirror_is : mirror_of (mirrored_words w) ≡ take (at sync_floor 0 w) (mirror_of w) ++ variables (drop (at sync_floor 0 w) (trail_of w))
+  mirror_is =
+      let e : at trail_length 0 w ≡ at sync_floor 0 w + (at trail_length 0 w - at sync_floor 0 w) = omega (arith, h.floor_trail) in
       mirror-from (mirrored_words w) (mirrored_sound w h)
       ∙ ap (from (λ k. at mirror k (mirrored_words w)) 0) (new_length w h ∙ e)
       ∙ from_append (λ k. at mirror k (mirrored_words w)) 0 (at sync_floor 0 w) (at trail_length 0 w - at sync_floor 0 w)

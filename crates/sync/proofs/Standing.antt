@@ -12,7 +12,7 @@ use Rattle.store.specs.Area.{Area, at, apart}
 use Rattle.store.specs.Layout.{mirror_length, sync_floor, trail_length, map, clause_count, environment_region, mirror_region, queue_region, trail_region}
 use Rattle.store.specs.Shape.{Sound}
 use Rattle.sync.proofs.Kept.{swept-area, swept-sound, mirrored_area, mirrored_at, new-floor, new_length, sync-outside}
-use Rattle.sync.proofs.Mirrored.{touched-is, mirror-is, trail_kept}
+use Rattle.sync.proofs.Mirrored.{touched-is, mirror_is, trail_kept}
 use Rattle.sync.proofs.Swept.{sweep-is}
 use Rattle.sync.specs.Sync.{touched_in, swept_words, mirrored_words, sync_left}
 use Rattle.rules.specs.declared.Value.{Value}
@@ -55,7 +55,7 @@ module _ (w : List ℕ) (h : Sound w) where
   unfolding sync_left
   sync-mirror =
       let m = mirror-same s w (swept-area w (touched_in w) h mirror_region tt) in
-      mirror-is s sound ∙ rw (swept_at sync_floor tt 0, m, swept-trail)
+      mirror_is s sound ∙ rw (swept_at sync_floor tt 0, m, swept-trail)
 
   -- it is as long as the trail, and so far goes the floor
   pub sync-mirror_length : at mirror_length 0 (sync_left w) ≡ at trail_length 0 w

@@ -51,9 +51,9 @@ module _ (w W : List ℕ) (h : Sound w) where
   unfolding at
   count_kept = rw (swept-area w W h clause_count tt)
 
-  mark-is : (k : ℕ) → mark_of (swept_words w W) k ≡ mark_of w k || wakes_at w W k
+  mark_is : (k : ℕ) → mark_of (swept_words w W) k ≡ mark_of w k || wakes_at w W k
   unfolding mark_of of_clause
-  mark-is k = rw count_kept (⊎_elim inner outer (lt_or k (at clause_count 0 w)))
+  mark_is k = rw count_kept (⊎_elim inner outer (lt_or k (at clause_count 0 w)))
     where
       set : (b : Bool) (x : ℕ) → eqb (cond b 1 x) 1 ≡ eqb x 1 || b
       set true x = sym (or_true (eqb x 1))
@@ -98,5 +98,5 @@ module _ (w W : List ℕ) (h : Sound w) where
   pub sweep-is : queue_of (swept_words w W) ≡ routes (env_of w) (assigned w) W (queue_of w)
   unfolding wakes_at
   sweep-is =
-      (λ i. record { mark = fun_ext mark-is i; cache = fun_ext cache-is i })
+      (λ i. record { mark = fun_ext mark_is i; cache = fun_ext cache-is i })
       ∙ sym (routes-swept (env_of w) (assigned w) W (queue_of w))

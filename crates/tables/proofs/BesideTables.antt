@@ -38,8 +38,8 @@ sound-beside s w h k l r t =
       ranges = r;
       cells = λ v. rw (k map tt) (h.cells v);
       tables = t;
-      floor-trail = rw (k sync_floor tt, k trail_length tt) h.floor-trail;
-      floor-mirror = rw (k sync_floor tt, k mirror_length tt) h.floor-mirror;
+      floor_trail = rw (k sync_floor tt, k trail_length tt) h.floor_trail;
+      floor_mirror = rw (k sync_floor tt, k mirror_length tt) h.floor_mirror;
       index = rw (k propagated tt, k trail_length tt) h.index;
     }
 

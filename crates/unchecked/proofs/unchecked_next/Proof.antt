@@ -12,7 +12,7 @@ same_length : tie.Need-same-length
 same_length c = search rules
 
 returns : tie.Need-returns
-returns c = rw (← c.before.before.before.before.next-unpropagated.ensures.0) (c.give-next.ensures.0, c.before.before.before.before.next-unpropagated.ensures.1, c.give-next.ensures.1)
+returns c = rw (← c.before.before.before.before.next_unpropagated.ensures.0) (c.give-next.ensures.0, c.before.before.before.before.next_unpropagated.ensures.1, c.give-next.ensures.1)
 
 pub unchecked-next-spec : {M : Type 1} → statement M
 unchecked-next-spec =

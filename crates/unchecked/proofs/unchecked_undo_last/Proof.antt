@@ -12,7 +12,7 @@ same_length : tie.Need-same-length
 same_length c = search rules
 
 returns : tie.Need-returns
-returns c = rw (← c.before.before.before.before.undo-last.ensures.0) (c.give-undone.ensures.0, c.before.before.before.before.undo-last.ensures.1, c.give-undone.ensures.1)
+returns c = rw (← c.before.before.before.before.undo_last.ensures.0) (c.give-undone.ensures.0, c.before.before.before.before.undo_last.ensures.1, c.give-undone.ensures.1)
 
 pub unchecked-undo-last-spec : {M : Type 1} → statement M
 unchecked-undo-last-spec =

@@ -14,7 +14,7 @@ same_length : tie.Need-same-length
 same_length c = search rules
 
 returns : tie.Need-returns
-returns c = (c.until-number.ensures ∙ ap until_number c.before.before.before.undo-until.ensures.0, c.before.before.before.undo-until.ensures.1)
+returns c = (c.until-number.ensures ∙ ap until_number c.before.before.before.undo_until.ensures.0, c.before.before.before.undo_until.ensures.1)
 
 pub unchecked-undo-until-spec : {M : Type 1} → statement M
 unchecked-undo-until-spec =

@@ -14,7 +14,7 @@ same_length : tie.Need-same-length
 same_length c = search rules
 
 returns : tie.Need-returns
-returns c = (c.tuned-number.ensures ∙ ap tuned_number c.before.before.before.set-activity.ensures.0, c.before.before.before.set-activity.ensures.1)
+returns c = (c.tuned-number.ensures ∙ ap tuned_number c.before.before.before.set_activity.ensures.0, c.before.before.before.set_activity.ensures.1)
 
 pub imb-set-activity-spec : {M : Type 1} → statement M
 imb-set-activity-spec =

@@ -1,0 +1,48 @@
+#!/usr/bin/env python3
+"""Brings the names of records' fields and of constructors to snake case: a dash becomes `_`, also where it joins two names.
+
+usage: python3 tools/respell_members.py [--table]    at the top of the repository, once, after tools/respell.py
+"""
+import re
+import sys
+
+sys.argv, arguments = sys.argv[:1] + ["--table"], sys.argv[1:]
+with open("tools/respell.py", encoding="utf-8") as f:
+    exec(f.read().replace("\nmain()\n", "\n"))
+
+# Two that would fall together with definitions get other names.
+OTHER_NAMES = {"clause-of": "clause_of_variable", "trail-length": "length_of_trail"}
+DATA = re.compile(r"^(?:abbrev )?(?:pub )?(?:data|record) [^\n]*where\n((?:  .*\n|\n(?=  ))+)", re.M)
+MEMBER = re.compile(rf"^  (?:pub )?({WORD})(?: [^\n:]*)? : ", re.M)
+
+
+def members():
+    found, words = set(), set()
+    for path in files(TEXTS):
+        text = read(path)
+        words |= set(re.findall(PLAIN, text))
+        for block in DATA.finditer(text):
+            found |= {m.group(1) for m in MEMBER.finditer(block.group(1)) if "-" in m.group(1)}
+    table = {n: n.replace("-", "_") for n in sorted(found)}
+    free = {n: new for n, new in table.items() if new not in words}
+    return OTHER_NAMES | free, {n: new for n, new in table.items() if new in words and n not in OTHER_NAMES}
+
+
+def members_turned():
+    table, kept = members()
+    if arguments == ["--table"]:
+        print("\n".join(f"{n}\t{new}" for n, new in table.items()), *(f"kept: {n} (another is named {new})" for n, new in kept.items()), sep="\n")
+        return
+    for path in files(TEXTS) + files(["crates/*/src/**/*.rt"]) + files(["crates/*/must-fail/*.edit"]):
+        text = read(path)
+        new = in_clauses(table, text) if path.endswith(".rt") else turned(table, text)
+        if new != text:
+            open(path, "w", encoding="utf-8").write(new)
+    for path in ["README.md"] + files(["docs/**/*.md", "host/**/*.md"]):
+        text = read(path)
+        new = re.sub(r"`[^`\n]+`", lambda m: turned(table, m.group(0)), text)
+        if new != text:
+            open(path, "w", encoding="utf-8").write(new)
+
+
+members_turned()
