@@ -3,7 +3,7 @@ use Rattle.conditions.specs.Disjunct.{disjunct_tests}
 use Rattle.conditions.proofs.disjunct.disjunct_holds.Goals as goal
 
 pub all_hold-requires : goal.all_hold-requires
-all_hold-requires c = (c.requires, sym c.lists_sane.ensures ∙ c.if-lists_sane.true)
+all_hold-requires c = record { sound = c.requires; cells_value = sym c.lists_sane.ensures ∙ c.if-lists_sane.true }
 
 pub returns-then-all_hold : goal.returns-then-all_hold
 unfolding disjunct_tests

@@ -9,7 +9,7 @@ pub loop-i-init : goal.loop-i-init
 loop-i-init c = (search rules, all_start _ _)
 
 pub term_length-requires : goal.term_length-requires
-term_length-requires c = (c.requires.sound, (c.requires.tallied.0, asked-at _ _ _ c.loop-i.i c.requires.tallied.1 (omega arith)))
+term_length-requires c = record { sound = c.requires.sound; tallied = c.requires.tallied; asked = asked-at _ _ _ c.loop-i.i c.requires.all_asked (omega arith) }
 
 pub returns-then-term_length : goal.returns-then-term_length
 returns-then-term_length c = all_fail _ _ _ c.loop-i.invariant.1 (omega arith) (not_short c.args.s.now c.args.c c.loop-i.i c.term_length.result c.term_length.ensures c.if-term_length.true)

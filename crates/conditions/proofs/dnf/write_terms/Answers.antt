@@ -14,40 +14,34 @@ loop-i-init c = (search rules, cells-none _ _, refl, refl, refl, refl)
 
 pub emit-to-requires : goal.emit-to-requires
 emit-to-requires c =
-    let start = c in
     let l = c.loop-i in
-    let w = start.args.s.now in
-    let room = room_at w start.args.c start.args.n l.i l.from (length l.cells) (omega arith) l.invariant.1 (omega (arith, l.invariant.3, start.requires.1.1.1.1)) in
-    (start.requires.0, (start.requires.1.0, (asked-at _ _ _ l.i start.requires.1.1.0 (omega arith), room)))
+    record {
+      sound = c.requires.sound;
+      tallied = c.requires.tallied;
+      asked = asked-at _ _ _ l.i c.requires.all_asked (omega arith);
+      i_in_bounds = room_at c.args.s.now c.args.c c.args.n l.i l.from (length l.cells) (omega arith) l.invariant.1 (omega (arith, l.invariant.3, c.requires.n_in_bounds.1));
+    }
 
 pub overflow_sub-lengths : goal.overflow_sub-lengths
 overflow_sub-lengths c = omega (arith, c.emit-to.ensures.0)
 
 pub overflow_cast-lengths : goal.overflow_cast-lengths
-overflow_cast-lengths c = omega (arith, c.emit-to.ensures.0, short_length c.args.s.now c.args.c c.args.n c.loop-i.i c.requires.tallied.1.1.2 (omega arith))
+overflow_cast-lengths c = omega (arith, c.emit-to.ensures.0, short_length c.args.s.now c.args.c c.args.n c.loop-i.i c.requires.n_in_bounds.2 (omega arith))
 
 pub bounds-lengths-i : goal.bounds-lengths-i
-bounds-lengths-i c = omega (arith, c.loop-i.invariant.2, c.requires.tallied.1.1.0)
+bounds-lengths-i c = omega (arith, c.loop-i.invariant.2, c.requires.n_in_bounds.0)
 
 pub loop-i-preserved : goal.loop-i-preserved
 loop-i-preserved c =
-    let start = c in
     let l = c.loop-i in
     let e = c.emit-to in
-    let w = start.args.s.now in
-    let d = start.args.c in
-    (search rules, e.ensures.0 ∙ cells_more w d l.i l.from _ l.invariant.1 refl, simp length-set l.invariant.2, e.auto.1.1.1.1.0 ∙ l.invariant.3, lengths_more w d l.i (e.result - l.from) start.args.lengths.now l.lengths l.invariant.4 (omega (arith, e.ensures.0)), cells-written w d l.i l.from start.args.cells.now l.cells e.new.1.1.1.1.0 l.invariant.5 l.invariant.1 e.ensures.1)
-
-pub shape_of-lengths : goal.shape_of-lengths
-shape_of-lengths c = c.loop-i.invariant.2
-
-pub shape_of-cells : goal.shape_of-cells
-shape_of-cells c = c.loop-i.invariant.3
+    let w = c.args.s.now in
+    let d = c.args.c in
+    (search rules, e.ensures.0 ∙ cells_more w d l.i l.from _ l.invariant.1 refl, simp length-set l.invariant.2, e.auto.out ∙ l.invariant.3, lengths_more w d l.i (e.result - l.from) c.args.lengths.now l.lengths l.invariant.4 (omega (arith, e.ensures.0)), cells-written w d l.i l.from c.args.cells.now l.cells e.new.out l.invariant.5 l.invariant.1 e.ensures.1)
 
 pub returns : goal.returns
 returns c =
-    let start = c in
     let l = c.loop-i in
-    let w = start.args.s.now in
-    let e : l.i ≡ start.args.n = omega arith in
-    (l.invariant.4 ∙ ap (lengths_left w start.args.c start.args.lengths.now) e, l.invariant.5 ∙ ap (cells_left w start.args.c start.args.cells.now) e)
+    let w = c.args.s.now in
+    let e : l.i ≡ c.args.n = omega arith in
+    (l.invariant.4 ∙ ap (lengths_left w c.args.c c.args.lengths.now) e, l.invariant.5 ∙ ap (cells_left w c.args.c c.args.cells.now) e)
