@@ -15,8 +15,7 @@ pub fn registered_number(answer: Registered) -> u32
 }
 
 // Registers a clause; its condition is a disjunction, or 4,294,967,295 for none.
-#[unsafe(no_mangle)]
-pub extern "C" fn imb_register(
+pub fn imb_register(
     s: &mut [u32],
     parent: u32,
     kind: u32,

@@ -16,16 +16,14 @@ fn made_number(answer: Made) -> u32
 }
 
 // How many words a store needs.
-#[unsafe(no_mangle)]
-pub extern "C" fn imb_words() -> usize
+pub fn imb_words() -> usize
     ensures { result ≡ words }
 {
     areas::WORDS
 }
 
 // Makes a fresh store, whatever the words held.
-#[unsafe(no_mangle)]
-pub extern "C" fn imb_fresh(s: &mut [u32]) -> u32
+pub fn imb_fresh(s: &mut [u32]) -> u32
     ensures { (result ≡ number_of s.old fresh) × (s.new ≡ left_by s.old fresh) }
 {
     made_number(fresh::fresh(s))

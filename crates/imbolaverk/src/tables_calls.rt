@@ -15,24 +15,21 @@ fn loaded_number(answer: Loaded) -> u32
 }
 
 // Loads a version set with its name.
-#[unsafe(no_mangle)]
-pub extern "C" fn imb_load_version_set(s: &mut [u32], set: u32, name: u32) -> u32
+pub fn imb_load_version_set(s: &mut [u32], set: u32, name: u32) -> u32
     ensures { (result ≡ number_of s.old (load_version_set set name)) × (s.new ≡ left_by s.old (load_version_set set name)) }
 {
     loaded_number(tables::load_version_set(s, set, name))
 }
 
 // Loads a union of version sets.
-#[unsafe(no_mangle)]
-pub extern "C" fn imb_load_union(s: &mut [u32], union: u32, members: &[u32]) -> u32
+pub fn imb_load_union(s: &mut [u32], union: u32, members: &[u32]) -> u32
     ensures { (result ≡ number_of s.old (load_union union members.now)) × (s.new ≡ left_by s.old (load_union union members.now)) }
 {
     loaded_number(tables::load_union(s, union, members))
 }
 
 // Loads a disjunction: literal j is variables[j] with signs[j] (0 plain, 1 negated).
-#[unsafe(no_mangle)]
-pub extern "C" fn imb_load_disjunction(
+pub fn imb_load_disjunction(
     s: &mut [u32],
     disjunction: u32,
     variables: &[u32],
@@ -44,14 +41,7 @@ pub extern "C" fn imb_load_disjunction(
 }
 
 // Loads a condition node: kind 0 is a leaf of the version set `left`, 1 the `and` and 2 the `or` of two nodes.
-#[unsafe(no_mangle)]
-pub extern "C" fn imb_load_condition(
-    s: &mut [u32],
-    node: u32,
-    kind: u32,
-    left: u32,
-    right: u32,
-) -> u32
+pub fn imb_load_condition(s: &mut [u32], node: u32, kind: u32, left: u32, right: u32) -> u32
     ensures { (result ≡ number_of s.old (load_condition node kind left right)) × (s.new ≡ left_by s.old (load_condition node kind left right)) }
 {
     loaded_number(tables::load_condition(s, node, kind, left, right))
