@@ -1,4 +1,4 @@
-use mathlib.Core.Path.{refl, sym, ◌∙◌}
+use mathlib.Core.Path.{sym, ◌∙◌}
 use Rattle.conditions.specs.Rewrite.{rewrite_sound_cells, rewrite_sound_lengths}
 use Rattle.store.proofs.Soundness.{sound_facts}
 use Rattle.conditions.proofs.rewrite.Goals as goal
@@ -9,7 +9,3 @@ rewrite-requires c = sound_facts _ (sym c.sound.ensures ∙ c.if-sound.true)
 pub returns-then-sound : goal.returns-then-sound
 unfolding rewrite_sound_lengths rewrite_sound_cells
 returns-then-sound c = simp (← c.sound.ensures, c.if-sound.true) c.rewrite.ensures
-
-pub returns : goal.returns
-unfolding rewrite_sound_lengths rewrite_sound_cells
-returns c = simp (← c.sound.ensures, c.if-sound.false) (refl, refl, refl)

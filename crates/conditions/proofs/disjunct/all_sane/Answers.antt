@@ -1,13 +1,9 @@
 use mathlib.Core.Bool.{true, false}
-use Prim.Native.Nat.{◌-◌}
 use native.Mathlib.Omega.{arith}
 use borrow.Author.Rules.{rules}
 use Rattle.conditions.proofs.Candidates.{sane-at}
-use Rattle.rules.proofs.Loops.{all_start, all_fail, all_more, all_end}
+use Rattle.rules.proofs.Loops.{all_fail, all_more, all_end}
 use Rattle.conditions.proofs.disjunct.all_sane.Goals as goal
-
-pub loop-j-init : goal.loop-j-init
-loop-j-init c = (search rules, all_start _ _)
 
 pub returns-then-not-is_sane : goal.returns-then-not-is_sane
 returns-then-not-is_sane c =

@@ -1,9 +1,5 @@
-use mathlib.Core.Path.{sym, ◌∙◌}
 use Rattle.conditions.specs.Disjunct.{disjunct_tests}
 use Rattle.conditions.proofs.disjunct.disjunct_holds.Goals as goal
-
-pub all_hold-requires : goal.all_hold-requires
-all_hold-requires c = record { sound = c.requires; cells_value = sym c.lists_sane.ensures ∙ c.if-lists_sane.true }
 
 pub returns-then-all_hold : goal.returns-then-all_hold
 unfolding disjunct_tests

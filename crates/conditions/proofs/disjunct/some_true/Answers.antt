@@ -1,12 +1,8 @@
-use mathlib.Core.Path.{refl, sym, ◌∙◌}
-use Prim.Native.Nat.{◌-◌}
+use mathlib.Core.Path.{sym, ◌∙◌}
 use native.Mathlib.Omega.{arith}
 use borrow.Author.Rules.{rules}
 use Rattle.conditions.proofs.Candidates.{some_hit, some_more, some_ends, variable-at}
 use Rattle.conditions.proofs.disjunct.some_true.Goals as goal
-
-pub loop-i-init : goal.loop-i-init
-loop-i-init c = (search rules, refl)
 
 pub is_true-requires : goal.is_true-requires
 is_true-requires c = (c.requires.sound, omega (arith, variable-at c.args.list.now c.loop-i.i c.requires.list_value (omega arith)))

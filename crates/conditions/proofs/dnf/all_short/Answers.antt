@@ -1,15 +1,8 @@
-use Prim.Native.Nat.{◌-◌}
 use native.Mathlib.Omega.{arith}
 use borrow.Author.Rules.{rules}
-use Rattle.conditions.proofs.Measuring.{asked-at, not_short, is-short}
-use Rattle.rules.proofs.Loops.{all_start, all_fail, all_more, all_end}
+use Rattle.conditions.proofs.Measuring.{not_short, is-short}
+use Rattle.rules.proofs.Loops.{all_fail, all_more, all_end}
 use Rattle.conditions.proofs.dnf.all_short.Goals as goal
-
-pub loop-i-init : goal.loop-i-init
-loop-i-init c = (search rules, all_start _ _)
-
-pub term_length-requires : goal.term_length-requires
-term_length-requires c = record { sound = c.requires.sound; tallied = c.requires.tallied; asked = asked-at _ _ _ c.loop-i.i c.requires.all_asked (omega arith) }
 
 pub returns-then-term_length : goal.returns-then-term_length
 returns-then-term_length c = all_fail _ _ _ c.loop-i.invariant.1 (omega arith) (not_short c.args.s.now c.args.c c.loop-i.i c.term_length.result c.term_length.ensures c.if-term_length.true)

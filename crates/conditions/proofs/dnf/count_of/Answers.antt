@@ -1,6 +1,4 @@
-use native.Mathlib.Nat.{lt_of_le_of_lt, mul-le-mul}
 use borrow.Author.Tests.{eq-eqb, ne_eqb}
-use lib.Dec.{lit<}
 use Rattle.conditions.specs.Ways.{count_of}
 use Rattle.conditions.proofs.dnf.count_of.Goals as goal
 
@@ -11,9 +9,6 @@ returns-then-kind-eq0 c = rw (eq-eqb _ 0 c.if-kind-eq0.true)
 pub returns-then-kind-eq-LEAF : goal.returns-then-kind-eq-LEAF
 unfolding count_of
 returns-then-kind-eq-LEAF c = rw (ne_eqb _ 0 c.if-kind-eq0.false, eq-eqb _ 1 c.if-kind-eq-LEAF.true)
-
-pub overflow_mul-l : goal.overflow_mul-l
-overflow_mul-l c = let p = c.requires in record { fits = lt_of_le_of_lt (mul-le-mul p.0 p.1) (lit< tt) }
 
 pub returns-then-kind-eq-AND : goal.returns-then-kind-eq-AND
 unfolding count_of

@@ -1,6 +1,6 @@
 use mathlib.Core.Path.{sym, ◌∙◌}
 use borrow.Author.Tests.{le-leb}
-use Rattle.conditions.proofs.Deciding.{unloaded, Looked, all_asked, many, long, no_rooms, no_room_lem, answered}
+use Rattle.conditions.proofs.Deciding.{unloaded, Looked, many, long, no_rooms, no_room_lem, answered}
 use Rattle.conditions.specs.Rewrite.{rewrite_tests}
 use Rattle.conditions.proofs.dnf.rewrite_case.Goals as goal
 use Rattle.conditions.proofs.dnf.rewrite_case.Goals.{After-wide-n}
@@ -17,19 +17,6 @@ returns-then-node_kind-eq0 c = unloaded c.args.s.now c.args.node c.args.rooms c.
 
 pub returns-then-n-gt-MOST_TERMS : goal.returns-then-n-gt-MOST_TERMS
 returns-then-n-gt-MOST_TERMS c = many (looked (goal.at.returns-then-n-gt-MOST_TERMS c).After-wide-n) c.args.rooms c.args.room c.if-n-gt-MOST_TERMS.true
-
-pub all_short-requires : goal.all_short-requires
-all_short-requires c =
-    record { sound = c.requires.sound; tallied = c.requires.tallied; all_asked = all_asked (looked (goal.at.all_short-requires c).After-wide-n) c.if-n-gt-MOST_TERMS.false }
-
-pub count_cells-total-requires : goal.count_cells-total-requires
-count_cells-total-requires c =
-    record {
-      sound = c.requires.sound;
-      tallied = c.requires.tallied;
-      all_asked = all_asked (looked (goal.at.count_cells-total-requires c).After-wide-n) c.if-n-gt-MOST_TERMS.false;
-      n_value = sym c.all_short.ensures ∙ c.if-all_short.true;
-    }
 
 pub returns-then-total-room : goal.returns-then-total-room
 returns-then-total-room c =
