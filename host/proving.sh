@@ -1,11 +1,11 @@
 # What the scripts that prove have in common. A script sources it with `here`, the repository's root, `me`, its own name, and `first_time`,
 # how long its first proof takes.
 #
-# What stays lies in build/, beside target/, which `rt ci` removes: what was built, each with a stamp of the sources that it was proved
-# from, and the lock that lets one proof run at a time.
+# What stays lies in build/, beside the crates' out/, which is the toolchain's: what was built, each with a stamp of the sources that it was
+# proved from, and the lock that lets one proof run at a time.
 
 # The toolchain, as `rt version` names it.
-toolchain=rattle-kit-5b-plain
+toolchain=rattle-kit-13f
 
 say() { printf '%s: %s\n' "$me" "$*" >&2; }
 
@@ -19,9 +19,6 @@ version() { sed -n 's/^version = "\(.*\)"$/imbolaverk \1/p' "$here/host/Cargo.to
 need_rt() {
     command -v rt >/dev/null 2>&1 || die "there is no rt here: it is the command of the Rattle toolchain, $toolchain; put it on the PATH"
 }
-
-# The toolchain's own folder.
-kit() { echo "${RATTLE_HOME:-$(dirname "$(dirname "$(readlink -f "$(command -v rt)")")")}"; }
 
 # The crates that a crate's proof rests on, itself last, in the order in which `rt` proves them: those that rest on none first.
 crates_of() { # NAME
@@ -47,7 +44,7 @@ stamp_of() { # NAME
         rt version
         cat "$here/crates.txt"
         for crate in $(crates_of "$1"); do
-            (cd "$here/crates/$crate" && find . -name must-fail -prune -o -type f -exec sha256sum {} + | sort -k 2)
+            (cd "$here/crates/$crate" && find . \( -name must-fail -o -name out \) -prune -o -type f -exec sha256sum {} + | sort -k 2)
         done
     } | sha256sum
 }
@@ -84,16 +81,18 @@ begin_proving() {
 
 end_proving() { exec 9>&-; }
 
-# Says of each crate when its proof begins, until it is stopped or the script is gone: `rt` opens the crate's log then. One that is
-# unchanged is not proved again, and nothing is said of it.
-tell_begun() { # CRATE..
+# Says of each crate when its proof begins, until it is stopped or the script is gone: the log has a line then. One that is unchanged is
+# not proved again, and nothing is said of it.
+tell_begun() { # LOG CRATE..
+    said=$1
+    shift
     told=' '
     while kill -0 $$ 2>/dev/null; do
         i=0
         for crate in "$@"; do
             i=$((i + 1))
             case $told in *" $crate "*) continue ;; esac
-            [ -e "$here/target/log/$crate.say" ] || continue
+            grep -qE "^(rt: chose --jobs [0-9]+ for $crate$|checked $crate::)" "$said" 2>/dev/null || continue
             told="$told$crate "
             say "proving $i of $#: $crate"
         done
@@ -101,22 +100,21 @@ tell_begun() { # CRATE..
     done
 }
 
-# Runs a command that proves a crate, and says how far it is. What the command said is shown where it fails.
-prove() { # NAME COMMAND..
-    name=$1
+# Runs a command in a crate's folder that proves it, and says how far it is. What the command said is shown where it fails.
+prove() { # CRATE COMMAND..
+    crate=$1
     shift
-    log=$here/build/$name.log
-    [ -d "$here/target/stamp" ] || say "the proof comes first; the first time it takes $first_time"
-    mkdir -p "$here/target/log"
-    rm -f "$here"/target/log/*.say
+    log=$here/build/$crate.log
+    [ -d "$here/crates/$crate/out" ] || say "the proof comes first; the first time it takes $first_time"
+    : >"$log"
     # shellcheck disable=SC2046
-    tell_begun $(crates_of "$name") 9>&- &
+    tell_begun "$log" $(crates_of "$crate") 9>&- &
     teller=$!
     ended=0
-    (cd "$here" && "$@") >"$log" 2>&1 </dev/null || ended=$?
+    (cd "$here/crates/$crate" && "$@") >"$log" 2>&1 </dev/null || ended=$?
     kill "$teller" 2>/dev/null || :
     wait "$teller" 2>/dev/null || :
     [ "$ended" -eq 0 ] && return
     tail -n 60 "$log" >&2
-    die "$name is not proved; build/$name.log has all that was said"
+    die "$crate is not proved; build/$crate.log has all that was said"
 }

@@ -139,13 +139,13 @@ cat >bin/rt <<'STANDIN'
 [ "$1" != version ] || { echo stand-in; exit; }
 echo "$*" >>"$ROOM/calls-of-rt"
 mkdir "$ROOM/running" || exit 1
-mkdir -p target/log target/stamp target/bin
-: >target/log/below.say
+mkdir -p out
+echo 'rt: chose --jobs 2 for below'
 sleep 1
-: >target/log/settle.say
+echo 'checked settle::main, 1 of 1'
 sleep 2
-printf '#!/bin/sh\ncat\n' >target/bin/settle
-chmod +x target/bin/settle
+printf '#!/bin/sh\ncat\n' >out/settle
+chmod +x out/settle
 rmdir "$ROOM/running"
 STANDIN
 chmod +x bin/uname bin/rt

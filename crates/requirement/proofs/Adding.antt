@@ -12,7 +12,7 @@ use lib.ListN.{length, get_or, drop, drop_of_length-le}
 use lib.Seq.{drop-cons}
 use Rattle.requirement.specs.Load.{adds, total, put_lists}
 use Rattle.rules.proofs.Choice.{both}
-use Rattle.store.specs.Area.{at, put}
+use Rattle.store.specs.Area.{put}
 use Rattle.store.specs.Layout.{list_starts, list_lengths}
 
 -- adding up: what is left of the test is the whole test

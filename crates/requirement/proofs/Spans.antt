@@ -12,7 +12,7 @@ use Rattle.store.proofs.AreaLaws.{at-past, at-inside}
 use Rattle.rules.proofs.Choice.{both, eq_or, lt_or}
 use Rattle.store.specs.Area.{at}
 use Rattle.store.specs.Layout.{list_starts, list_lengths, single_cells, single_starts, single_lengths, union_starts, union_lengths}
-use Rattle.store.specs.Limits.{version_sets, unions, cell_room, union_lists}
+use Rattle.store.specs.Limits.{version_sets, cell_room, union_lists}
 use Rattle.store.specs.Shape.{lies, unions_from, Tabled}
 
 pub lies-of : (from to st n : ℕ) → from ≤ st → st + n ≤ to → lies from to st n ≡ true

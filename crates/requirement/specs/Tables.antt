@@ -1,5 +1,5 @@
 -- The candidate tables as the layers above see them: a requirement's key, its lists, their version sets and their cells.
-use Rattle.std.specs.Prelude.{cond, List, [], ◌∷◌, ℕ, zero, suc, ◌+◌, ◌-◌, ◌*◌, ltb, eqb, take, drop, set}
+use Rattle.std.specs.Prelude.{cond, List, ℕ, ◌+◌, ◌-◌, ◌*◌, ltb, eqb, take, drop, set}
 use Rattle.rules.specs.Numbers.{from}
 use Rattle.store.specs.Area.{area, at}
 use Rattle.store.specs.Codes.{single_kind}

@@ -1,6 +1,5 @@
 use mathlib.Core.Path.{refl, sym, ◌∙◌}
 use Rattle.store.proofs.Soundness.{sound_facts}
-use Rattle.store.specs.Layout.{mode}
 use Rattle.settings.proofs.mode_of.Goals as goal
 
 pub mode-requires : goal.mode-requires

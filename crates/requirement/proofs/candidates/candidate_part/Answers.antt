@@ -1,7 +1,5 @@
 use native.Mathlib.Omega.{arith}
 use Rattle.requirement.proofs.Parts.{part-is, part_room}
-use Rattle.store.specs.Area.{at}
-use Rattle.store.specs.Limits.{unions}
 use Rattle.requirement.proofs.candidates.candidate_part.Goals as goal
 
 pub overflow_add-result : goal.overflow_add-result

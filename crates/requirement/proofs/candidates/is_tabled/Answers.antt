@@ -1,7 +1,6 @@
 use borrow.Author.Tests.{lt-ltb, eq-eqb, ne_eqb}
 use Rattle.requirement.specs.Copy.{tabled}
 use Rattle.rules.proofs.Choice.{tests}
-use Rattle.store.specs.Area.{at}
 use Rattle.requirement.proofs.candidates.is_tabled.Goals as goal
 
 pub returns-then-id : goal.returns-then-id

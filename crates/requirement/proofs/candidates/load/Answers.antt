@@ -1,7 +1,6 @@
 use borrow.Author.Tests.{eq-eqb, ne_eqb}
 use Rattle.requirement.specs.Load.{loaded}
 use Rattle.requirement.specs.Tables.{requirement_of}
-use Rattle.store.specs.Area.{at}
 use Rattle.requirement.proofs.candidates.load.Goals as goal
 
 pub load_single-requires : goal.load_single-requires

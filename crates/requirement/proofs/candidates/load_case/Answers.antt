@@ -2,7 +2,6 @@ use mathlib.Core.Path.{sym, ◌∙◌}
 use borrow.Author.Tests.{lt-ltb, le-ltb, eq-eqb, ne_eqb}
 use Rattle.requirement.proofs.Loading.{known_key, fitting_facts}
 use Rattle.requirement.specs.Load.{load_tests}
-use Rattle.store.specs.Area.{at}
 use Rattle.requirement.proofs.candidates.load_case.Goals as goal
 
 pub returns-else-is_fitting : goal.returns-else-is_fitting

@@ -1,8 +1,6 @@
 use native.Mathlib.Omega.{arith}
 use borrow.Author.Rules.{rules}
-use lib.Seq.{set_at}
 use Rattle.requirement.proofs.Views.{set_below}
-use Rattle.store.specs.Area.{at}
 use Rattle.requirement.proofs.candidates.name_at.Goals as goal
 
 pub set_name-stored-requires : goal.set_name-stored-requires

@@ -1,7 +1,5 @@
 use borrow.Author.Tests.{eq-eqb, ne_eqb}
 use Rattle.settings.specs.Settings.{activity_on}
-use Rattle.store.specs.Area.{at}
-use Rattle.store.specs.Layout.{mode}
 use Rattle.settings.proofs.tuning.activity_case.Goals as goal
 
 pub returns-then-all_quiet : goal.returns-then-all_quiet

@@ -1,6 +1,5 @@
 use mathlib.Core.Path.{refl}
 use borrow.Author.Tests.{le-leb, lt-leb}
-use Rattle.store.specs.Area.{at}
 use Rattle.settings.proofs.tuning.mark_hot.Goals as goal
 
 pub returns-then-name : goal.returns-then-name

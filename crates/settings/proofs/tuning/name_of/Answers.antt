@@ -1,6 +1,5 @@
 use borrow.Author.Tests.{lt-leb}
 use Rattle.rules.proofs.Choice.{tests}
-use Rattle.store.specs.Area.{at}
 use Rattle.settings.proofs.tuning.name_of.Goals as goal
 
 pub returns-then-name : goal.returns-then-name

@@ -1,7 +1,6 @@
 use mathlib.Core.Path.{sym, ◌∙◌}
 use Rattle.settings.proofs.Leaving.{done_leaves, refused_leaves}
 use Rattle.settings.specs.Settings.{mode_tests}
-use Rattle.store.specs.Layout.{mode}
 use Rattle.settings.proofs.tuning.set_mode.Goals as goal
 
 pub returns-in-Done : goal.returns-in-Done

@@ -1,6 +1,5 @@
 use mathlib.Core.Path.{sym, ◌∙◌}
 use Rattle.settings.proofs.Leaving.{activity-done, activity-refused}
-use Rattle.store.specs.Area.{at}
 use Rattle.settings.proofs.tuning.store_activity.Goals as goal
 
 pub returns-in-Done : goal.returns-in-Done

@@ -1,7 +1,7 @@
 use mathlib.Core.Path.{◌≡◌}
 use Prim.Native.Nat.{◌+◌, ◌-◌, ◌≤◌}
 use lib.ListN.{length, drop}
-use Rattle.store.specs.Area.{at, put_run}
+use Rattle.store.specs.Area.{put_run}
 use Rattle.store.proofs.lent.set_run.Given as goal
 
 abbrev pub invariant-loop-i : goal.invariant-loop-i

@@ -1,4 +1,3 @@
-use Prim.Native.Nat.{◌-◌}
 use native.Mathlib.Omega.{arith}
 use Rattle.store.proofs.Counting.{covered_start, covered_turn, covered_done}
 use Rattle.store.proofs.shape.ceiling.Goals as goal

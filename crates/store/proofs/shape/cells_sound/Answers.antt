@@ -1,4 +1,3 @@
-use Prim.Native.Nat.{◌-◌}
 use native.Mathlib.Omega.{arith}
 use Rattle.store.proofs.Counting.{counted_start, counted_pass, counted_fail, every-done, hole_fails, cell_passes}
 use Rattle.store.proofs.shape.cells_sound.Goals as goal

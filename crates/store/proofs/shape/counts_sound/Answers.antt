@@ -1,5 +1,4 @@
 use borrow.Author.Tests.{le-leb, lt-leb}
-use Rattle.store.specs.Layout.{propagated}
 use Rattle.store.specs.Shape.{counts_sound}
 use Rattle.store.proofs.shape.counts_sound.Goals as goal
 

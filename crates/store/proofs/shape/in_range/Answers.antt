@@ -1,8 +1,6 @@
 use mathlib.Core.Path.{refl}
-use Prim.Native.Nat.{◌-◌}
 use native.Mathlib.Omega.{arith}
 use borrow.Author.Rules.{rules}
-use Rattle.store.proofs.AreaLaws.{within}
 use Rattle.store.proofs.TableLaws.{table_fits, table_more, table_fails, table_done}
 use Rattle.store.proofs.shape.in_range.Goals as goal
 

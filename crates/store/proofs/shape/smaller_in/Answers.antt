@@ -1,4 +1,3 @@
-use Prim.Native.Nat.{◌-◌}
 use native.Mathlib.Omega.{arith}
 use Rattle.store.proofs.Counting.{counted_start, counted_pass, counted_fail, smaller-done, late_fails, early_passes}
 use Rattle.store.proofs.shape.smaller_in.Goals as goal

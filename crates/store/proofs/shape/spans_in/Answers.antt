@@ -1,5 +1,4 @@
 use mathlib.Core.Path.{refl}
-use Prim.Native.Nat.{◌-◌}
 use native.Mathlib.Omega.{arith}
 use Rattle.store.proofs.Counting.{counted_start, counted_pass, counted_fail, spans-done, span_is}
 use Rattle.store.proofs.shape.spans_in.Goals as goal

@@ -1,4 +1,3 @@
-use Rattle.store.specs.Area.{at}
 use Rattle.tables.specs.Disjunction.{literals_of}
 use Rattle.tables.proofs.disjunction.literals_of.Goals as goal
 

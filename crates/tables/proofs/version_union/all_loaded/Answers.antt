@@ -1,9 +1,7 @@
 use mathlib.Core.Path.{refl, sym, ◌∙◌}
-use Prim.Native.Nat.{◌-◌}
 use native.Mathlib.Omega.{arith}
 use borrow.Author.Rules.{rules}
 use Rattle.store.proofs.Runs.{every_fails, every_more, every_ends}
-use Rattle.tables.specs.VersionSet.{set_loaded}
 use Rattle.tables.proofs.version_union.all_loaded.Goals as goal
 
 pub loop-i-init : goal.loop-i-init

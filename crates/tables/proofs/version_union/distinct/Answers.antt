@@ -1,9 +1,8 @@
 use mathlib.Core.Path.{sym, ◌∙◌}
-use Prim.Native.Nat.{◌-◌}
 use native.Mathlib.Omega.{arith}
 use borrow.Author.Rules.{rules}
 use Rattle.rules.proofs.Loops.{all_start, all_fail, all_more, all_end}
-use Rattle.tables.specs.Union.{new_at, distinct}
+use Rattle.tables.specs.Union.{distinct}
 use Rattle.tables.proofs.version_union.distinct.Goals as goal
 
 pub loop-i-init : goal.loop-i-init

@@ -3,7 +3,7 @@ use borrow.Author.Tests.{lt-ltb, le-ltb, lt-leb}
 use lib.ListN.{length}
 use Rattle.rules.proofs.Choice.{tests}
 use Rattle.store.specs.Limits.{union_room}
-use Rattle.tables.specs.Union.{distinct, load_union_tests}
+use Rattle.tables.specs.Union.{load_union_tests}
 use Rattle.tables.proofs.version_union.load_case.Goals as goal
 
 pub returns-then-union : goal.returns-then-union

@@ -2,8 +2,6 @@ use mathlib.Core.Path.{refl}
 use native.Mathlib.Omega.{arith}
 use borrow.Author.Rules.{rules}
 use borrow.Author.Tests.{lt-ltb, le-ltb}
-use Rattle.store.specs.Area.{at}
-use Rattle.store.specs.Layout.{propagated}
 use Rattle.trail.proofs.Popping.{entered}
 use Rattle.trail.specs.Next.{next_answer, next_left}
 use Rattle.trail.proofs.decision_tracker.next_unpropagated.Goals as goal

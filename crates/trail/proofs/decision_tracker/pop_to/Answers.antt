@@ -1,4 +1,3 @@
-use Rattle.store.specs.Area.{at}
 use Rattle.trail.proofs.Popping.{pops_start, pops_turn, pops_less, pops_stop, pops_end}
 use Rattle.trail.proofs.decision_tracker.pop_to.Goals as goal
 

@@ -2,7 +2,6 @@ use mathlib.Core.Path.{refl}
 use native.Mathlib.Omega.{arith}
 use borrow.Author.Rules.{rules}
 use borrow.Author.Tests.{lt-ltb, le-ltb}
-use Rattle.store.specs.Area.{at}
 use Rattle.trail.proofs.Popping.{entered, popped-again}
 use Rattle.trail.specs.UndoLast.{undo_last_tests}
 use Rattle.trail.proofs.decision_tracker.undo_last.Goals as goal

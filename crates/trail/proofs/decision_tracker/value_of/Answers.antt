@@ -1,6 +1,5 @@
 use borrow.Author.Tests.{lt-leb, eq-eqb, ne_eqb}
 use Rattle.rules.proofs.Choice.{tests}
-use Rattle.store.specs.Area.{at}
 use Rattle.trail.proofs.decision_tracker.value_of.Goals as goal
 
 pub returns-then-variable : goal.returns-then-variable
