@@ -6,6 +6,7 @@
 use clauses::Registered;
 use conditions::Rewritten;
 use script::say;
+use std::io::{self, Write};
 use store::{codes, limits};
 use tables::Loaded;
 use trail::{Assigned, Until};
@@ -16,127 +17,135 @@ const TERMS: usize = limits::MOST_TERMS;
 // The most version sets that they have together.
 const SETS: usize = TERMS * limits::MOST_SETS;
 
-fn say_assigned(answer: Assigned) -> bool {
+fn say_assigned<W: Write>(out: &mut W, answer: Assigned) -> io::Result<()> {
     match answer {
-        Assigned::New => say::text(b"new\n"),
-        Assigned::Already => say::text(b"already\n"),
-        Assigned::Refused(n) => say::refused(n),
+        Assigned::New => say::text(out, b"new\n"),
+        Assigned::Already => say::text(out, b"already\n"),
+        Assigned::Refused(n) => say::refused(out, n),
     }
 }
 
-fn say_until(answer: Until) -> bool {
+fn say_until<W: Write>(out: &mut W, answer: Until) -> io::Result<()> {
     match answer {
-        Until::Done => say::text(b"done\n"),
-        Until::Refused(n) => say::refused(n),
+        Until::Done => say::text(out, b"done\n"),
+        Until::Refused(n) => say::refused(out, n),
     }
 }
 
-fn say_rewritten(answer: Rewritten) -> bool {
+fn say_rewritten<W: Write>(out: &mut W, answer: Rewritten) -> io::Result<()> {
     match answer {
         Rewritten::Terms { terms, cells } => {
-            say::number(terms)
-                && say::text(b" terms of")
-                && say::word(cells)
-                && say::text(b" version sets together\n")
+            say::number(out, terms)?;
+            say::text(out, b" terms of")?;
+            say::word(out, cells)?;
+            say::text(out, b" version sets together\n")
         }
-        Rewritten::Refused(n) => say::refused(n),
+        Rewritten::Refused(n) => say::refused(out, n),
     }
 }
 
 // Loading is expected to be done: only a refusal is told.
-fn expect_loaded(answer: Loaded) -> bool {
+fn expect_loaded<W: Write>(out: &mut W, answer: Loaded) -> io::Result<()> {
     match answer {
-        Loaded::Done => true,
-        Loaded::Refused(n) => say::refused(n),
+        Loaded::Done => Ok(()),
+        Loaded::Refused(n) => say::refused(out, n),
     }
 }
 
-fn load_and(words: &mut [u32], node: u32, left: u32, right: u32) {
-    expect_loaded(tables::load_condition(words, node, 1, left, right));
+fn load_and<W: Write>(
+    out: &mut W,
+    words: &mut [u32],
+    node: u32,
+    left: u32,
+    right: u32,
+) -> io::Result<()> {
+    expect_loaded(out, tables::load_condition(words, node, 1, left, right))
 }
 
 // Version sets a and b, a leaf for each, and node 2: a or b.
-fn load_leaves(words: &mut [u32]) {
-    expect_loaded(tables::load_version_set(words, 0, 0));
-    expect_loaded(tables::load_version_set(words, 1, 1));
-    expect_loaded(tables::load_condition(words, 0, 0, 0, 0));
-    expect_loaded(tables::load_condition(words, 1, 0, 1, 0));
-    expect_loaded(tables::load_condition(words, 2, 2, 0, 1));
+fn load_leaves<W: Write>(out: &mut W, words: &mut [u32]) -> io::Result<()> {
+    expect_loaded(out, tables::load_version_set(words, 0, 0))?;
+    expect_loaded(out, tables::load_version_set(words, 1, 1))?;
+    expect_loaded(out, tables::load_condition(words, 0, 0, 0, 0))?;
+    expect_loaded(out, tables::load_condition(words, 1, 0, 1, 0))?;
+    expect_loaded(out, tables::load_condition(words, 2, 2, 0, 1))
 }
 
 // Node 7 is (a or b) six times over, 64 terms; node 8 has one term more.
-fn load_wide(words: &mut [u32]) {
-    load_and(words, 3, 2, 2);
-    load_and(words, 4, 3, 2);
-    load_and(words, 5, 4, 2);
-    load_and(words, 6, 5, 2);
-    load_and(words, 7, 6, 2);
-    expect_loaded(tables::load_condition(words, 8, 2, 7, 0));
+fn load_wide<W: Write>(out: &mut W, words: &mut [u32]) -> io::Result<()> {
+    load_and(out, words, 3, 2, 2)?;
+    load_and(out, words, 4, 3, 2)?;
+    load_and(out, words, 5, 4, 2)?;
+    load_and(out, words, 6, 5, 2)?;
+    load_and(out, words, 7, 6, 2)?;
+    expect_loaded(out, tables::load_condition(words, 8, 2, 7, 0))
 }
 
 // Node 12 is a sixteen times over, node 13 once more.
-fn load_deep(words: &mut [u32]) {
-    load_and(words, 9, 0, 0);
-    load_and(words, 10, 9, 9);
-    load_and(words, 11, 10, 10);
-    load_and(words, 12, 11, 11);
-    load_and(words, 13, 12, 0);
+fn load_deep<W: Write>(out: &mut W, words: &mut [u32]) -> io::Result<()> {
+    load_and(out, words, 9, 0, 0)?;
+    load_and(out, words, 10, 9, 9)?;
+    load_and(out, words, 11, 10, 10)?;
+    load_and(out, words, 12, 11, 11)?;
+    load_and(out, words, 13, 12, 0)
 }
 
-fn try_levels(words: &mut [u32]) {
-    say::text(b"level 2,147,483,647: ");
-    say_assigned(trail::assign(words, 0, 1, 2_147_483_647, 10));
-    say::text(b"level 2,147,483,648: ");
-    say_assigned(trail::assign(words, 1, 1, 2_147_483_648, 10));
-    say::text(b"one entry at level 2,147,483,647, undo-until 1: ");
-    say_until(trail::undo_until(words, 1));
+fn try_levels<W: Write>(out: &mut W, words: &mut [u32]) -> io::Result<()> {
+    say::text(out, b"level 2,147,483,647: ")?;
+    say_assigned(out, trail::assign(words, 0, 1, 2_147_483_647, 10))?;
+    say::text(out, b"level 2,147,483,648: ")?;
+    say_assigned(out, trail::assign(words, 1, 1, 2_147_483_648, 10))?;
+    say::text(out, b"one entry at level 2,147,483,647, undo-until 1: ")?;
+    say_until(out, trail::undo_until(words, 1))
 }
 
-fn try_stop(words: &mut [u32]) {
-    say::text(b"undo-until 0: ");
-    say_until(trail::undo_until(words, 0));
-    say::text(b"level 2: ");
-    say_assigned(trail::assign(words, 0, 1, 2, 10));
-    say::text(b"one entry at level 2, undo-until 1: ");
-    say_until(trail::undo_until(words, 1));
+fn try_stop<W: Write>(out: &mut W, words: &mut [u32]) -> io::Result<()> {
+    say::text(out, b"undo-until 0: ")?;
+    say_until(out, trail::undo_until(words, 0))?;
+    say::text(out, b"level 2: ")?;
+    say_assigned(out, trail::assign(words, 0, 1, 2, 10))?;
+    say::text(out, b"one entry at level 2, undo-until 1: ")?;
+    say_until(out, trail::undo_until(words, 1))
 }
 
-fn try_rewriting(words: &[u32], node: u32) {
+fn try_rewriting<W: Write>(out: &mut W, words: &[u32], node: u32) -> io::Result<()> {
     let mut lengths = [0u32; TERMS];
     let mut cells = [0u32; SETS];
-    say_rewritten(conditions::rewrite(words, node, &mut lengths, &mut cells));
+    let answer = conditions::rewrite(words, node, &mut lengths, &mut cells);
+    say_rewritten(out, answer)
 }
 
-fn try_short(words: &[u32], node: u32) {
+fn try_short<W: Write>(out: &mut W, words: &[u32], node: u32) -> io::Result<()> {
     let mut lengths = [0u32; TERMS - 1];
     let mut cells = [0u32; SETS];
-    say_rewritten(conditions::rewrite(words, node, &mut lengths, &mut cells));
+    let answer = conditions::rewrite(words, node, &mut lengths, &mut cells);
+    say_rewritten(out, answer)
 }
 
-fn try_conditions(words: &[u32]) {
-    say::text(b"64 terms: ");
-    try_rewriting(words, 7);
-    say::text(b"65 terms: ");
-    try_rewriting(words, 8);
-    say::text(b"a term of 16: ");
-    try_rewriting(words, 12);
-    say::text(b"a term of 17: ");
-    try_rewriting(words, 13);
-    say::text(b"64 terms, 63 places: ");
-    try_short(words, 7);
+fn try_conditions<W: Write>(out: &mut W, words: &[u32]) -> io::Result<()> {
+    say::text(out, b"64 terms: ")?;
+    try_rewriting(out, words, 7)?;
+    say::text(out, b"65 terms: ")?;
+    try_rewriting(out, words, 8)?;
+    say::text(out, b"a term of 16: ")?;
+    try_rewriting(out, words, 12)?;
+    say::text(out, b"a term of 17: ")?;
+    try_rewriting(out, words, 13)?;
+    say::text(out, b"64 terms, 63 places: ")?;
+    try_short(out, words, 7)
 }
 
-fn say_registered(answer: Registered) -> bool {
+fn say_registered<W: Write>(out: &mut W, answer: Registered) -> io::Result<()> {
     match answer {
-        Registered::Done => say::text(b"done\n"),
-        Registered::Refused(n) => say::refused(n),
+        Registered::Done => say::text(out, b"done\n"),
+        Registered::Refused(n) => say::refused(out, n),
     }
 }
 
-fn load_candidates(words: &mut [u32]) -> bool {
+fn load_candidates<W: Write>(out: &mut W, words: &mut [u32]) -> io::Result<()> {
     match requirement::load_candidates(words, 0, 0, &[1], &[1]) {
-        requirement::Loaded::Done => true,
-        requirement::Loaded::Refused(n) => say::refused(n),
+        requirement::Loaded::Done => Ok(()),
+        requirement::Loaded::Refused(n) => say::refused(out, n),
     }
 }
 
@@ -146,30 +155,29 @@ fn register(words: &mut [u32; limits::WORD_ROOM]) -> Registered {
 }
 
 fn register_many(words: &mut [u32; limits::WORD_ROOM], n: usize) {
-    let mut i: usize = 0;
-    while i < n {
+    for _ in 0..n {
         register(words);
-        i += 1;
     }
 }
 
-fn try_clauses(words: &mut [u32; limits::WORD_ROOM]) {
-    load_candidates(words);
+fn try_clauses<W: Write>(out: &mut W, words: &mut [u32; limits::WORD_ROOM]) -> io::Result<()> {
+    load_candidates(out, words)?;
     register_many(words, limits::CLAUSES - 1);
-    say::text(b"clause 512: ");
-    say_registered(register(words));
-    say::text(b"clause 513: ");
-    say_registered(register(words));
+    say::text(out, b"clause 512: ")?;
+    say_registered(out, register(words))?;
+    say::text(out, b"clause 513: ")?;
+    say_registered(out, register(words))
 }
 
-fn main() {
+fn main(rt: HostRuntime) -> io::Result<()> {
+    let mut out = rt.stdout();
     let mut words = [0u32; limits::WORD_ROOM];
     store::fresh::fresh(&mut words);
-    try_levels(&mut words);
-    try_stop(&mut words);
-    load_leaves(&mut words);
-    load_wide(&mut words);
-    load_deep(&mut words);
-    try_conditions(&words);
-    try_clauses(&mut words);
+    try_levels(&mut out, &mut words)?;
+    try_stop(&mut out, &mut words)?;
+    load_leaves(&mut out, &mut words)?;
+    load_wide(&mut out, &mut words)?;
+    load_deep(&mut out, &mut words)?;
+    try_conditions(&mut out, &words)?;
+    try_clauses(&mut out, &mut words)
 }

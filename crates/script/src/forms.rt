@@ -4,7 +4,7 @@
 use crate::{names, words};
 
 // What a line is: a call in its form, or why it is none. A word that is not as its letter asks is told with both.
-#[derive(Drop)]
+#[derive(Clone, Copy)]
 pub enum Heard {
     Well,
     NoSuchCall,
@@ -59,13 +59,11 @@ fn letter(form: &[u8], i: usize) -> u8 {
 
 // Each word behind the name against its letter.
 fn fit_all(line: &[u64], form: &[u8]) -> Heard {
-    let mut i: usize = 1;
-    while i < line.len() {
+    for i in 1..line.len() {
         let asked = letter(form, i - 1);
         if !fit(line[i], asked) {
             return Heard::Wrong(i, asked);
         }
-        i += 1;
     }
     Heard::Well
 }
@@ -128,12 +126,10 @@ fn well_placed(line: &[u64], i: usize) -> bool {
 
 // No list is empty.
 fn no_list_empty(line: &[u64]) -> Heard {
-    let mut i: usize = 1;
-    while i < line.len() {
+    for i in 1..line.len() {
         if !well_placed(line, i) {
             return Heard::Wrong(i, BETWEEN);
         }
-        i += 1;
     }
     Heard::Well
 }

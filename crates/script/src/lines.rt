@@ -1,11 +1,12 @@
 // The line that is being read.
+use std::io;
 
 // The longest line that is kept whole.
 pub const MOST_BYTES: usize = 16_384;
 
 // Its number from 1, how many bytes of it are kept, whether more came than are kept, whether the input is over, how many lines before it
 // were not understood, whether reading or writing failed, and whether lines are said before their answers.
-#[derive(Drop)]
+#[derive(Clone, Copy)]
 pub struct Line {
     pub number: u64,
     pub kept: usize,
@@ -16,12 +17,11 @@ pub struct Line {
     pub is_echoed: bool,
 }
 
-// What became of a line.
-#[derive(Drop)]
+// What became of a line whose answer was written.
+#[derive(Clone, Copy)]
 pub enum Told {
     Well,
     NotUnderstood,
-    NotWritten,
     Quit,
 }
 
@@ -66,13 +66,13 @@ pub fn failed(line: Line) -> Line {
     after
 }
 
-// The line behind one that was answered so.
-pub fn after(line: Line, told: Told) -> Line {
+// The line behind one that was answered so. An error is an answer that could not be written.
+pub fn after(line: Line, told: io::Result<Told>) -> Line {
     match told {
-        Told::Well => next(line),
-        Told::NotUnderstood => misread(next(line)),
-        Told::NotWritten => failed(next(line)),
-        Told::Quit => over(next(line)),
+        Ok(Told::Well) => next(line),
+        Ok(Told::NotUnderstood) => misread(next(line)),
+        Ok(Told::Quit) => over(next(line)),
+        Err(_) => failed(next(line)),
     }
 }
 

@@ -3,7 +3,7 @@ use crate::names;
 use crate::words::MOST_WORDS;
 
 // How many lists and cells were taken.
-#[derive(Drop)]
+#[derive(Clone, Copy)]
 pub struct Taken {
     pub lists: usize,
     pub cells: usize,
@@ -62,10 +62,8 @@ pub fn collect(
     cells: &mut [u32; MOST_WORDS],
 ) -> Taken {
     let mut taken = Taken { lists: 1, cells: 0 };
-    let mut i = from;
-    while i < line.len() {
+    for i in from..line.len() {
         taken = take(taken, line[i], lengths, cells);
-        i += 1;
     }
     taken
 }

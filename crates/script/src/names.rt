@@ -1,5 +1,7 @@
 // The words that are no numbers. Each has a code above every u32, and calls of one kind stand together, in the order in which `help`
 // lists them.
+ghost use Rattle.std.specs.Prelude.{◌≡◌, ◌↔◌, IsTrue};
+
 use store::limits;
 
 // The code of the first of them.
@@ -95,18 +97,10 @@ pub const QUIT: u64 = NAME + 1;
 pub const FRACTIONS: u64 = 2 * FIRST;
 
 // Whether two words have the same bytes.
-pub fn same(a: &[u8], b: &[u8]) -> bool {
-    if a.len() != b.len() {
-        return false;
-    }
-    let mut i: usize = 0;
-    while i < a.len() && i < b.len() {
-        if a[i] != b[i] {
-            return false;
-        }
-        i += 1;
-    }
-    true
+pub fn same(a: &[u8], b: &[u8]) -> bool
+    ensures { IsTrue result ↔ (a.now ≡ b.now) }
+{
+    a == b
 }
 
 // The code of a word. The calls that a day is full of are looked for first.

@@ -1,55 +1,54 @@
-// Writing answers. Each function says whether all was written, and stops at the first write that fails.
+// Writing answers. Each function stops at the first write that fails, and answers its error.
 use crate::parts;
-use libc::STDOUT_FILENO;
+use std::io::{self, Write};
 
-pub fn text(bytes: &[u8]) -> bool {
-    io::write_all(STDOUT_FILENO, bytes)
+pub fn text<W: Write>(out: &mut W, bytes: &[u8]) -> io::Result<()> {
+    out.write_all(bytes)
 }
 
-pub fn number(n: u32) -> bool {
-    io::print_decimal(STDOUT_FILENO, n as u64)
+pub fn number<W: Write>(out: &mut W, n: u32) -> io::Result<()> {
+    write!(out, "{n}")
 }
 
 // A number that counts lines or words.
-pub fn count(n: u64) -> bool {
-    io::print_decimal(STDOUT_FILENO, n)
+pub fn count<W: Write>(out: &mut W, n: u64) -> io::Result<()> {
+    write!(out, "{n}")
 }
 
 // A blank and a number.
-pub fn word(n: u32) -> bool {
-    text(b" ") && number(n)
+pub fn word<W: Write>(out: &mut W, n: u32) -> io::Result<()> {
+    text(out, b" ")?;
+    number(out, n)
 }
 
-pub fn line_end() -> bool {
-    text(b"\n")
+pub fn line_end<W: Write>(out: &mut W) -> io::Result<()> {
+    text(out, b"\n")
 }
 
-pub fn ok() -> bool {
-    text(b"ok\n")
+pub fn ok<W: Write>(out: &mut W) -> io::Result<()> {
+    text(out, b"ok\n")
 }
 
-pub fn none() -> bool {
-    text(b"none\n")
+pub fn none<W: Write>(out: &mut W) -> io::Result<()> {
+    text(out, b"none\n")
 }
 
-pub fn refused(n: u32) -> bool {
-    named(b"refused", n)
+pub fn refused<W: Write>(out: &mut W, n: u32) -> io::Result<()> {
+    named(out, b"refused", n)
 }
 
 // An answer of a name and a number.
-pub fn named(name: &[u8], n: u32) -> bool {
-    text(name) && word(n) && line_end()
+pub fn named<W: Write>(out: &mut W, name: &[u8], n: u32) -> io::Result<()> {
+    text(out, name)?;
+    word(out, n)?;
+    line_end(out)
 }
 
-fn numbers(cells: &[u32]) -> bool {
-    let mut i: usize = 0;
-    while i < cells.len() {
-        if !word(cells[i]) {
-            return false;
-        }
-        i += 1;
+fn numbers<W: Write>(out: &mut W, cells: &[u32]) -> io::Result<()> {
+    for cell in cells {
+        word(out, *cell)?;
     }
-    true
+    Ok(())
 }
 
 // How long list j is, 0 where there is none.
@@ -69,39 +68,44 @@ fn rest(cells: &[u32], start: usize) -> &[u32] {
 }
 
 // What stands before list j: nothing before the first.
-pub fn between(j: usize) -> bool {
+pub fn between<W: Write>(out: &mut W, j: usize) -> io::Result<()> {
     if 0 < j {
-        return text(b" ;");
+        return text(out, b" ;");
     }
-    true
+    Ok(())
 }
 
 // List j of so many, which has n cells and begins at `start`. An empty list is a blank, unless it ends the line.
-fn list(cells: &[u32], j: usize, count: usize, start: usize, n: usize) -> bool {
-    between(j) && gap(j, count, n) && numbers(parts::first(rest(cells, start), n))
+fn list<W: Write>(
+    out: &mut W,
+    cells: &[u32],
+    j: usize,
+    count: usize,
+    start: usize,
+    n: usize,
+) -> io::Result<()> {
+    between(out, j)?;
+    gap(out, j, count, n)?;
+    numbers(out, parts::first(rest(cells, start), n))
 }
 
 // The blank of list j of so many, if it has no cell.
-fn gap(j: usize, count: usize, n: usize) -> bool {
+fn gap<W: Write>(out: &mut W, j: usize, count: usize, n: usize) -> io::Result<()> {
     if n == 0 {
         if std::num::wrapping_add_usize(j, 1) < count {
-            return text(b" ");
+            return text(out, b" ");
         }
     }
-    true
+    Ok(())
 }
 
 // Lists with `;` between them: list j is the next lengths[j] cells.
-pub fn lists(lengths: &[u32], cells: &[u32]) -> bool {
+pub fn lists<W: Write>(out: &mut W, lengths: &[u32], cells: &[u32]) -> io::Result<()> {
     let mut start: usize = 0;
-    let mut j: usize = 0;
-    while j < lengths.len() {
+    for j in 0..lengths.len() {
         let n = length(lengths, j);
-        if !list(cells, j, lengths.len(), start, n) {
-            return false;
-        }
+        list(out, cells, j, lengths.len(), start, n)?;
         start = std::num::wrapping_add_usize(start, n);
-        j += 1;
     }
-    line_end()
+    line_end(out)
 }

@@ -80,10 +80,8 @@ fn with_byte(number: u64, byte: u8) -> u64 {
 // A word that begins with a digit: a u32, or a fraction where it has a point.
 fn decimal(word: &[u8]) -> u64 {
     let mut number: u64 = 0;
-    let mut i: usize = 0;
-    while i < word.len() {
-        number = with_byte(number, word[i]);
-        i += 1;
+    for byte in word {
+        number = with_byte(number, *byte);
     }
     number
 }
@@ -123,14 +121,13 @@ fn take(
 
 // How many of the first `count` words stand before a comment.
 fn before_comment(line: &[u64; MOST_WORDS], count: usize) -> usize {
-    let mut i: usize = 0;
-    while i < MOST_WORDS && i < count {
+    let taken = count.min(MOST_WORDS);
+    for i in 0..taken {
         if line[i] == names::COMMENT {
             return i;
         }
-        i += 1;
     }
-    i
+    taken
 }
 
 // Fills in the words of a line's bytes, and answers how many there are before its comment.
@@ -142,19 +139,17 @@ pub fn scan(bytes: &[u8], line: &mut [u64; MOST_WORDS]) -> usize {
 fn scan_all(bytes: &[u8], line: &mut [u64; MOST_WORDS]) -> usize {
     let mut count: usize = 0;
     let mut start: usize = 0;
-    let mut i: usize = 0;
-    while i < bytes.len() {
+    for i in 0..bytes.len() {
         if is_blank(bytes[i]) {
             count = take(bytes, start, i, line, count);
             start = i + 1;
         }
-        i += 1;
     }
     take(bytes, start, bytes.len(), line, count)
 }
 
 // Where a word stands in its line's bytes.
-#[derive(Drop)]
+#[derive(Clone, Copy)]
 pub struct Span {
     pub start: usize,
     pub end: usize,
@@ -164,8 +159,7 @@ pub struct Span {
 pub fn find(bytes: &[u8], wanted: usize) -> Span {
     let mut left = wanted;
     let mut start: usize = 0;
-    let mut i: usize = 0;
-    while i < bytes.len() {
+    for i in 0..bytes.len() {
         if is_blank(bytes[i]) {
             if start < i {
                 if left == 0 {
@@ -175,9 +169,11 @@ pub fn find(bytes: &[u8], wanted: usize) -> Span {
             }
             start = i + 1;
         }
-        i += 1;
     }
-    Span { start, end: i }
+    Span {
+        start,
+        end: bytes.len(),
+    }
 }
 
 pub fn is_number(word: u64) -> bool {

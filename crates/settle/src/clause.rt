@@ -2,20 +2,21 @@
 use clauses::Registered;
 use script::{names, say, words};
 use settings::Tuned;
+use std::io::{self, Write};
 use store::limits;
 use store::limits::WORD_ROOM;
 
-fn say_registered(answer: Registered) -> bool {
+fn say_registered<W: Write>(out: &mut W, answer: Registered) -> io::Result<()> {
     match answer {
-        Registered::Done => say::ok(),
-        Registered::Refused(n) => say::refused(n),
+        Registered::Done => say::ok(out),
+        Registered::Refused(n) => say::refused(out, n),
     }
 }
 
-fn say_tuned(answer: Tuned) -> bool {
+fn say_tuned<W: Write>(out: &mut W, answer: Tuned) -> io::Result<()> {
     match answer {
-        Tuned::Done => say::ok(),
-        Tuned::Refused(n) => say::refused(n),
+        Tuned::Done => say::ok(out),
+        Tuned::Refused(n) => say::refused(out, n),
     }
 }
 
@@ -31,18 +32,20 @@ fn condition(line: &[u64]) -> u32 {
     disjunction
 }
 
-fn register(s: &mut [u32; WORD_ROOM], line: &[u64]) -> bool {
-    say_registered(clauses::register(
+fn register<W: Write>(out: &mut W, s: &mut [u32; WORD_ROOM], line: &[u64]) -> io::Result<()> {
+    let answer = clauses::register(
         s,
         words::number(line, 1),
         words::requirement_kind(line, 2),
         words::number(line, 3),
         condition(line),
         words::number(line, 5),
-    ))
+    );
+    say_registered(out, answer)
 }
 
 // The activity of some bits. Above those of the largest finite number all are bad (9), as -1 is.
+#[tactic(auto, using(rules::proofs::FloatOrder::no_nan_bits))]
 fn of_bits(bits: u32) -> f32 {
     if bits <= limits::LAST_ACTIVITY as u32 {
         return f32::from_bits(bits);
@@ -65,16 +68,24 @@ fn activity_of(line: &[u64], i: usize) -> f32 {
     of_bits(words::number(line, i))
 }
 
-fn activity(s: &mut [u32; WORD_ROOM], line: &[u64]) -> bool {
-    say_tuned(settings::set_activity(s, words::number(line, 1), activity_of(line, 2)))
+fn activity<W: Write>(out: &mut W, s: &mut [u32; WORD_ROOM], line: &[u64]) -> io::Result<()> {
+    say_tuned(
+        out,
+        settings::set_activity(s, words::number(line, 1), activity_of(line, 2)),
+    )
 }
 
-pub fn make(s: &mut [u32; WORD_ROOM], line: &[u64], call: u64) -> bool {
+pub fn make<W: Write>(
+    out: &mut W,
+    s: &mut [u32; WORD_ROOM],
+    line: &[u64],
+    call: u64,
+) -> io::Result<()> {
     let first = words::number(line, 1);
     match call {
-        names::REGISTER => register(s, line),
-        names::HOT => say_tuned(settings::mark_hot(s, first)),
-        names::ACTIVITY => activity(s, line),
-        _ => say_tuned(settings::set_mode(s, first)),
+        names::REGISTER => register(out, s, line),
+        names::HOT => say_tuned(out, settings::mark_hot(s, first)),
+        names::ACTIVITY => activity(out, s, line),
+        _ => say_tuned(out, settings::set_mode(s, first)),
     }
 }

@@ -13,16 +13,22 @@ mod queue;
 mod terms;
 mod whole_trail;
 
-use libc::{STDERR_FILENO, STDIN_FILENO};
 use script::lines::{Line, MOST_BYTES, Told};
 use script::{lines, names, say};
+use std::io::{self, BufWriter, Read, Write};
+use std::rt::Env;
 use store::limits::WORD_ROOM;
 
+// The most bytes that one read takes.
+const CHUNK: usize = 4_096;
+
 // Whether the first argument says so.
-fn is_echo_asked() -> bool {
+fn is_echo_asked(rt: &impl Env) -> bool {
     let mut word = [0u8; 8];
-    let n = os::arg(1, &mut word);
-    names::same(&word[..n], b"--echo")
+    match rt.arg(1, &mut word) {
+        Ok(n) => names::same(&word[..n], b"--echo"),
+        Err(_) => false,
+    }
 }
 
 // How many bytes stand before the words: those of a byte order mark, which a first line may begin with.
@@ -38,130 +44,212 @@ fn mark_length(bytes: &[u8], number: u64) -> usize {
 }
 
 // Says a line's bytes, if that is asked.
-fn echo(line: Line, bytes: &[u8]) -> bool {
+fn echo<W: Write>(out: &mut W, line: Line, bytes: &[u8]) -> io::Result<()> {
     if line.is_echoed {
-        return say::text(b"> ") && say::text(bytes) && say::line_end();
+        say::text(out, b"> ")?;
+        say::text(out, bytes)?;
+        say::line_end(out)?;
     }
-    true
+    Ok(())
 }
 
 // Answers a line of these bytes.
-fn answer_bytes(s: &mut [u32; WORD_ROOM], line: Line, bytes: &[u8]) -> Told {
-    if !echo(line, bytes) {
-        return Told::NotWritten;
-    }
+fn answer_bytes<W: Write>(
+    out: &mut W,
+    s: &mut [u32; WORD_ROOM],
+    line: Line,
+    bytes: &[u8],
+) -> io::Result<Told> {
+    echo(out, line, bytes)?;
     if line.is_long {
-        return misread::say_long(line.number);
+        return misread::say_long(out, line.number);
     }
-    answer::answer(s, bytes, line.number)
+    answer::answer(out, s, bytes, line.number)
 }
 
 // Answers the line that has ended, of which so many bytes were kept.
-fn answer_kept(s: &mut [u32; WORD_ROOM], line: Line, bytes: &[u8], kept: usize) -> Told {
+fn answer_kept<W: Write>(
+    out: &mut W,
+    s: &mut [u32; WORD_ROOM],
+    line: Line,
+    bytes: &[u8],
+    kept: usize,
+) -> io::Result<Told> {
     let from = mark_length(bytes, line.number);
     if from <= kept {
         if kept <= bytes.len() {
-            return answer_bytes(s, line, &bytes[from..kept]);
+            return answer_bytes(out, s, line, &bytes[from..kept]);
         }
     }
-    Told::Well
+    Ok(Told::Well)
 }
 
-fn end_line(s: &mut [u32; WORD_ROOM], bytes: &[u8; MOST_BYTES], line: Line) -> Line {
+fn end_line<W: Write>(
+    rt: &impl Eprint,
+    out: &mut W,
+    s: &mut [u32; WORD_ROOM],
+    bytes: &[u8; MOST_BYTES],
+    line: Line,
+) -> Line {
     let kept = line.kept;
-    settled(line, answer_kept(s, line, bytes, kept))
+    settled(rt, line, answer_kept(out, s, line, bytes, kept))
+}
+
+fn tell_unwritten(rt: &impl Eprint, error: &io::Error) {
+    let _ = eprintln!(rt; "settle: the answers cannot be written: {error}");
 }
 
 // The line behind one that was answered so; an answer that could not be written is told.
-fn settled(line: Line, told: Told) -> Line {
-    let after = lines::after(line, told);
-    if after.has_failed {
-        os::fail(b"settle: the answers cannot be written");
+fn settled(rt: &impl Eprint, line: Line, told: io::Result<Told>) -> Line {
+    if let Err(error) = &told {
+        tell_unwritten(rt, error);
     }
-    after
+    lines::after(line, told)
 }
 
-fn take_byte(s: &mut [u32; WORD_ROOM], bytes: &mut [u8; MOST_BYTES], line: Line, byte: u8) -> Line {
+// Puts out what was answered, since the next read may wait; where that fails it is told.
+fn put_out<W: Write>(rt: &impl Eprint, out: &mut W, line: Line) -> Line {
+    if line.has_failed {
+        return line;
+    }
+    match out.flush() {
+        Ok(()) => line,
+        Err(error) => {
+            tell_unwritten(rt, &error);
+            lines::failed(line)
+        }
+    }
+}
+
+fn take_byte<W: Write>(
+    rt: &impl Eprint,
+    out: &mut W,
+    s: &mut [u32; WORD_ROOM],
+    bytes: &mut [u8; MOST_BYTES],
+    line: Line,
+    byte: u8,
+) -> Line {
     if byte == b'\n' {
-        return end_line(s, bytes, line);
+        return end_line(rt, out, s, bytes, line);
     }
     lines::keep(bytes, line, byte)
 }
 
-fn take_bytes(
+fn take_bytes<W: Write>(
+    rt: &impl Eprint,
+    out: &mut W,
     s: &mut [u32; WORD_ROOM],
     bytes: &mut [u8; MOST_BYTES],
     first: Line,
     chunk: &[u8],
 ) -> Line {
     let mut line = first;
-    let mut i: usize = 0;
-    while i < chunk.len() && !line.is_over {
-        line = take_byte(s, bytes, line, chunk[i]);
-        i += 1;
+    for byte in chunk {
+        if line.is_over {
+            return line;
+        }
+        line = take_byte(rt, out, s, bytes, line, *byte);
     }
     line
 }
 
 // What a read that brought nothing means: the input is over, or cannot be read.
-fn ended(line: Line, got: isize) -> Line {
-    if got < 0 {
-        os::fail(b"settle: the calls cannot be read");
-        return lines::failed(line);
+fn ended(rt: &impl Eprint, line: Line, got: io::Result<usize>) -> Line {
+    match got {
+        Ok(_) => lines::over(line),
+        Err(error) => {
+            let _ = eprintln!(rt; "settle: the calls cannot be read: {error}");
+            lines::failed(line)
+        }
     }
-    lines::over(line)
 }
 
 // Reads once, and answers the lines that end in what came.
-fn read_some(s: &mut [u32; WORD_ROOM], bytes: &mut [u8; MOST_BYTES], line: Line) -> Line {
-    let mut chunk = io::buffer();
-    let got = libc::read(STDIN_FILENO, &mut chunk);
-    if got <= 0 {
-        return ended(line, got);
+fn read_some<R: Read, W: Write>(
+    rt: &impl Eprint,
+    input: &mut R,
+    out: &mut W,
+    s: &mut [u32; WORD_ROOM],
+    bytes: &mut [u8; MOST_BYTES],
+    line: Line,
+) -> Line {
+    let mut chunk = [0u8; CHUNK];
+    match input.read(&mut chunk) {
+        Ok(n) if 0 < n => {
+            let read = take_bytes(rt, out, s, bytes, line, &chunk[..n]);
+            put_out(rt, out, read)
+        }
+        nothing => ended(rt, line, nothing),
     }
-    let n = io::count(got, &chunk);
-    take_bytes(s, bytes, line, &chunk[..n])
 }
 
-// Nothing says that the input ends, so the turns are counted down from a number that no run uses up.
-fn read_all(s: &mut [u32; WORD_ROOM], bytes: &mut [u8; MOST_BYTES], first: Line) -> Line {
+// Nothing says that the input ends, so there are as many turns as no run uses up.
+fn read_all<R: Read, W: Write>(
+    rt: &impl Eprint,
+    input: &mut R,
+    out: &mut W,
+    s: &mut [u32; WORD_ROOM],
+    bytes: &mut [u8; MOST_BYTES],
+    first: Line,
+) -> Line {
     let mut line = first;
-    let mut turns = u64::MAX;
-    while turns > 0 && !line.is_over {
-        line = read_some(s, bytes, line);
-        turns -= 1;
+    for _ in 0..u64::MAX {
+        if line.is_over {
+            return line;
+        }
+        line = read_some(rt, input, out, s, bytes, line);
     }
     line
 }
 
 // A last line may lack its line end.
-fn end_last(s: &mut [u32; WORD_ROOM], bytes: &[u8; MOST_BYTES], last: Line) -> Line {
+fn end_last<W: Write>(
+    rt: &impl Eprint,
+    out: &mut W,
+    s: &mut [u32; WORD_ROOM],
+    bytes: &[u8; MOST_BYTES],
+    last: Line,
+) -> Line {
     if last.has_failed || last.kept == 0 {
         return last;
     }
-    end_line(s, bytes, last)
+    let end = end_line(rt, out, s, bytes, last);
+    put_out(rt, out, end)
 }
 
 // How many lines were not understood, on standard error.
-fn tell_misread(n: u64) {
-    io::write_all(STDERR_FILENO, b"settle: ");
-    io::print_decimal(STDERR_FILENO, n);
-    if n == 1 {
-        io::write_all(STDERR_FILENO, b" line was not understood\n");
+fn tell_misread(rt: &impl Eprint, n: u64) {
+    let _ = if n == 1 {
+        eprintln!(rt; "settle: {n} line was not understood")
     } else {
-        io::write_all(STDERR_FILENO, b" lines were not understood\n");
-    }
+        eprintln!(rt; "settle: {n} lines were not understood")
+    };
 }
 
-fn main() {
+// Answers the calls of an input on a fresh store.
+fn answer_all<R: Read, W: Write>(rt: &impl Eprint, input: &mut R, out: &mut W, is_echoed: bool) {
     let mut words = [0u32; WORD_ROOM];
     let mut bytes = [0u8; MOST_BYTES];
     store::fresh::fresh(&mut words);
-    let read = read_all(&mut words, &mut bytes, lines::first(is_echo_asked()));
-    let last = end_last(&mut words, &bytes, read);
+    let read = read_all(
+        rt,
+        input,
+        out,
+        &mut words,
+        &mut bytes,
+        lines::first(is_echoed),
+    );
+    let last = end_last(rt, out, &mut words, &bytes, read);
     if 0 < last.misread {
         if !last.has_failed {
-            tell_misread(last.misread);
+            tell_misread(rt, last.misread);
         }
+    }
+}
+
+fn main(rt: HostRuntime) {
+    match BufWriter::new(rt.alloc(), rt.stdout()) {
+        Ok(mut out) => answer_all(&rt, &mut rt.stdin(), &mut out, is_echo_asked(&rt)),
+        Err(error) => tell_unwritten(&rt, &error),
     }
 }

@@ -2,67 +2,86 @@
 use script::forms::Heard;
 use script::lines::Told;
 use script::{expected, say, words};
+use std::io::{self, Write};
 
 // The most bytes of a word that are repeated.
 const MOST_REPEATED: usize = 40;
 
 // The bytes from `start` to `end`, if the line has them.
-fn say_from(bytes: &[u8], start: usize, end: usize) -> bool {
+fn say_from<W: Write>(out: &mut W, bytes: &[u8], start: usize, end: usize) -> io::Result<()> {
     if start <= end {
         if end <= bytes.len() {
-            return say::text(&bytes[start..end]);
+            return say::text(out, &bytes[start..end]);
         }
     }
-    true
+    Ok(())
 }
 
 // A word of a line; a long one breaks off.
-fn say_part(bytes: &[u8], start: usize, end: usize) -> bool {
+fn say_part<W: Write>(out: &mut W, bytes: &[u8], start: usize, end: usize) -> io::Result<()> {
     let most = std::num::wrapping_add_usize(start, MOST_REPEATED);
     if most < end {
-        return say_from(bytes, start, most) && say::text(b"..");
+        say_from(out, bytes, start, most)?;
+        return say::text(out, b"..");
     }
-    say_from(bytes, start, end)
+    say_from(out, bytes, start, end)
 }
 
 // Word i between quotation marks.
-fn say_word(bytes: &[u8], i: usize) -> bool {
+fn say_word<W: Write>(out: &mut W, bytes: &[u8], i: usize) -> io::Result<()> {
     let found = words::find(bytes, i);
-    say::text(b"\"") && say_part(bytes, found.start, found.end) && say::text(b"\"")
+    say::text(out, b"\"")?;
+    say_part(out, bytes, found.start, found.end)?;
+    say::text(out, b"\"")
 }
 
 // Word i, which is counted from 1 with the call's name, and what it should be.
-fn say_wrong(bytes: &[u8], i: usize, letter: u8) -> bool {
-    say::text(b"word ")
-        && say::count(std::num::wrapping_add_u64(i as u64, 1))
-        && say::text(b", ")
-        && say_word(bytes, i)
-        && say::text(b", ")
-        && expected::say_letter(letter)
+fn say_wrong<W: Write>(out: &mut W, bytes: &[u8], i: usize, letter: u8) -> io::Result<()> {
+    say::text(out, b"word ")?;
+    say::count(out, std::num::wrapping_add_u64(i as u64, 1))?;
+    say::text(out, b", ")?;
+    say_word(out, bytes, i)?;
+    say::text(out, b", ")?;
+    expected::say_letter(out, letter)
 }
 
-fn say_why(heard: Heard, call: u64, bytes: &[u8]) -> bool {
+fn say_why<W: Write>(out: &mut W, heard: Heard, call: u64, bytes: &[u8]) -> io::Result<()> {
     match heard {
-        Heard::TooFew => say::text(b"too few words for ") && expected::say_call(call),
-        Heard::TooMany => say::text(b"too many words for ") && expected::say_call(call),
-        Heard::Wrong(i, letter) => say_wrong(bytes, i, letter),
-        _ => say_word(bytes, 0) && say::text(b" is no call, see help"),
+        Heard::TooFew => {
+            say::text(out, b"too few words for ")?;
+            expected::say_call(out, call)
+        }
+        Heard::TooMany => {
+            say::text(out, b"too many words for ")?;
+            expected::say_call(out, call)
+        }
+        Heard::Wrong(i, letter) => say_wrong(out, bytes, i, letter),
+        _ => {
+            say_word(out, bytes, 0)?;
+            say::text(out, b" is no call, see help")
+        }
     }
 }
 
 // The answer to line `number`, which cannot be read.
-pub fn say(heard: Heard, call: u64, bytes: &[u8], number: u64) -> bool {
-    say::text(b"bad line ")
-        && say::count(number)
-        && say::text(b": ")
-        && say_why(heard, call, bytes)
-        && say::line_end()
+pub fn say<W: Write>(
+    out: &mut W,
+    heard: Heard,
+    call: u64,
+    bytes: &[u8],
+    number: u64,
+) -> io::Result<()> {
+    say::text(out, b"bad line ")?;
+    say::count(out, number)?;
+    say::text(out, b": ")?;
+    say_why(out, heard, call, bytes)?;
+    say::line_end(out)
 }
 
 // The answer to line `number`, of which too much came.
-pub fn say_long(number: u64) -> Told {
-    if say::text(b"bad line ") && say::count(number) && say::text(b": longer than 16,384 bytes\n") {
-        return Told::NotUnderstood;
-    }
-    Told::NotWritten
+pub fn say_long<W: Write>(out: &mut W, number: u64) -> io::Result<Told> {
+    say::text(out, b"bad line ")?;
+    say::count(out, number)?;
+    say::text(out, b": longer than 16,384 bytes\n")?;
+    Ok(Told::NotUnderstood)
 }

@@ -2,62 +2,80 @@
 use requirement::Copied;
 use script::words::MOST_WORDS;
 use script::{lists, names, parts, say, words};
+use std::io::{self, Write};
 use store::limits;
 use store::limits::WORD_ROOM;
 use tables::Loaded;
 
-fn say_loaded(answer: Loaded) -> bool {
+fn say_loaded<W: Write>(out: &mut W, answer: Loaded) -> io::Result<()> {
     match answer {
-        Loaded::Done => say::ok(),
-        Loaded::Refused(n) => say::refused(n),
+        Loaded::Done => say::ok(out),
+        Loaded::Refused(n) => say::refused(out, n),
     }
 }
 
-fn say_candidates(answer: requirement::Loaded) -> bool {
+fn say_candidates<W: Write>(out: &mut W, answer: requirement::Loaded) -> io::Result<()> {
     match answer {
-        requirement::Loaded::Done => say::ok(),
-        requirement::Loaded::Refused(n) => say::refused(n),
+        requirement::Loaded::Done => say::ok(out),
+        requirement::Loaded::Refused(n) => say::refused(out, n),
     }
 }
 
-fn load_version_set(s: &mut [u32; WORD_ROOM], line: &[u64]) -> bool {
-    say_loaded(tables::load_version_set(s, words::number(line, 1), words::number(line, 2)))
+fn load_version_set<W: Write>(
+    out: &mut W,
+    s: &mut [u32; WORD_ROOM],
+    line: &[u64],
+) -> io::Result<()> {
+    let answer = tables::load_version_set(s, words::number(line, 1), words::number(line, 2));
+    say_loaded(out, answer)
 }
 
-fn load_union(s: &mut [u32; WORD_ROOM], line: &[u64]) -> bool {
+fn load_union<W: Write>(out: &mut W, s: &mut [u32; WORD_ROOM], line: &[u64]) -> io::Result<()> {
     let mut lengths = [0u32; MOST_WORDS];
     let mut members = [0u32; MOST_WORDS];
     let taken = lists::collect(line, 2, &mut lengths, &mut members);
-    say_loaded(tables::load_union(
+    let answer = tables::load_union(
         s,
         words::number(line, 1),
         parts::first_of(&members, taken.cells),
-    ))
+    );
+    say_loaded(out, answer)
 }
 
-fn load_candidates(s: &mut [u32; WORD_ROOM], line: &[u64]) -> bool {
+fn load_candidates<W: Write>(
+    out: &mut W,
+    s: &mut [u32; WORD_ROOM],
+    line: &[u64],
+) -> io::Result<()> {
     let mut lengths = [0u32; MOST_WORDS];
     let mut cells = [0u32; MOST_WORDS];
     let taken = lists::collect(line, 3, &mut lengths, &mut cells);
-    say_candidates(requirement::load_candidates(
+    let answer = requirement::load_candidates(
         s,
         words::requirement_kind(line, 1),
         words::number(line, 2),
         parts::first_of(&lengths, taken.lists),
         parts::first_of(&cells, taken.cells),
-    ))
+    );
+    say_candidates(out, answer)
 }
 
-fn say_copied(answer: Copied, lengths: &[u32], cells: &[u32]) -> bool {
+fn say_copied<W: Write>(
+    out: &mut W,
+    answer: Copied,
+    lengths: &[u32],
+    cells: &[u32],
+) -> io::Result<()> {
     match answer {
         Copied::Done { lists, cells: _ } => {
-            say::text(b"cells") && say::lists(parts::first(lengths, store::wide(lists)), cells)
+            say::text(out, b"cells")?;
+            say::lists(out, parts::first(lengths, store::wide(lists)), cells)
         }
-        Copied::Refused(n) => say::refused(n),
+        Copied::Refused(n) => say::refused(out, n),
     }
 }
 
-fn look_up(s: &[u32; WORD_ROOM], line: &[u64]) -> bool {
+fn look_up<W: Write>(out: &mut W, s: &[u32; WORD_ROOM], line: &[u64]) -> io::Result<()> {
     let mut lengths = [0u32; limits::UNION_ROOM];
     let mut cells = [0u32; limits::CELL_ROOM];
     let answer = requirement::copy_candidates(
@@ -67,7 +85,7 @@ fn look_up(s: &[u32; WORD_ROOM], line: &[u64]) -> bool {
         &mut lengths,
         &mut cells,
     );
-    say_copied(answer, &lengths, &cells)
+    say_copied(out, answer, &lengths, &cells)
 }
 
 // Takes the literal of words i and i + 1 behind the n taken before.
@@ -93,43 +111,52 @@ fn take_literals(
     signs: &mut [u32; MOST_WORDS],
 ) -> usize {
     let mut n: usize = 0;
-    let mut i: usize = 2;
-    while i < line.len() {
+    for i in (2..line.len()).step_by(2) {
         n = take_literal(line, i, n, variables, signs);
-        i += 2;
     }
     n
 }
 
-fn load_disjunction(s: &mut [u32; WORD_ROOM], line: &[u64]) -> bool {
+fn load_disjunction<W: Write>(
+    out: &mut W,
+    s: &mut [u32; WORD_ROOM],
+    line: &[u64],
+) -> io::Result<()> {
     let mut variables = [0u32; MOST_WORDS];
     let mut signs = [0u32; MOST_WORDS];
     let n = take_literals(line, &mut variables, &mut signs);
-    say_loaded(tables::load_disjunction(
+    let answer = tables::load_disjunction(
         s,
         words::number(line, 1),
         parts::first_of(&variables, n),
         parts::first_of(&signs, n),
-    ))
+    );
+    say_loaded(out, answer)
 }
 
-fn load_node(s: &mut [u32; WORD_ROOM], line: &[u64]) -> bool {
-    say_loaded(tables::load_condition(
+fn load_node<W: Write>(out: &mut W, s: &mut [u32; WORD_ROOM], line: &[u64]) -> io::Result<()> {
+    let answer = tables::load_condition(
         s,
         words::number(line, 1),
         words::node_kind(line, 2),
         words::number(line, 3),
         words::number(line, 4),
-    ))
+    );
+    say_loaded(out, answer)
 }
 
-pub fn make(s: &mut [u32; WORD_ROOM], line: &[u64], call: u64) -> bool {
+pub fn make<W: Write>(
+    out: &mut W,
+    s: &mut [u32; WORD_ROOM],
+    line: &[u64],
+    call: u64,
+) -> io::Result<()> {
     match call {
-        names::VS => load_version_set(s, line),
-        names::UNION => load_union(s, line),
-        names::CAND => load_candidates(s, line),
-        names::LOOKUP => look_up(s, line),
-        names::DISJ => load_disjunction(s, line),
-        _ => load_node(s, line),
+        names::VS => load_version_set(out, s, line),
+        names::UNION => load_union(out, s, line),
+        names::CAND => load_candidates(out, s, line),
+        names::LOOKUP => look_up(out, s, line),
+        names::DISJ => load_disjunction(out, s, line),
+        _ => load_node(out, s, line),
     }
 }

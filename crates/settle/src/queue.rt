@@ -3,39 +3,44 @@ ghost use Rattle.proposal.specs.Propose.{Numbered};
 
 use proposal::Proposal;
 use script::{names, say};
+use std::io::{self, Write};
 use store::limits::WORD_ROOM;
 use sync::Synced;
 
-fn say_synced(answer: Synced) -> bool {
+fn say_synced<W: Write>(out: &mut W, answer: Synced) -> io::Result<()> {
     match answer {
-        Synced::Touches(n) => say::named(b"touches", n),
-        Synced::Refused(n) => say::refused(n),
+        Synced::Touches(n) => say::named(out, b"touches", n),
+        Synced::Refused(n) => say::refused(out, n),
     }
 }
 
-fn say_choice(
+fn say_choice<W: Write>(
+    out: &mut W,
     candidate: u32,
     parent: u32,
     clause: u32,
     bits: u32,
     count: u32,
     dropped: u32,
-) -> bool {
-    say::text(b"choose")
-        && say::word(candidate)
-        && say::word(parent)
-        && say::word(clause)
-        && say::word(bits)
-        && say::word(count)
-        && say::word(dropped)
-        && say::line_end()
+) -> io::Result<()> {
+    say::text(out, b"choose")?;
+    say::word(out, candidate)?;
+    say::word(out, parent)?;
+    say::word(out, clause)?;
+    say::word(out, bits)?;
+    say::word(out, count)?;
+    say::word(out, dropped)?;
+    say::line_end(out)
 }
 
-fn say_dead(clause: u32, dropped: u32) -> bool {
-    say::text(b"refused 8") && say::word(clause) && say::word(dropped) && say::line_end()
+fn say_dead<W: Write>(out: &mut W, clause: u32, dropped: u32) -> io::Result<()> {
+    say::text(out, b"refused 8")?;
+    say::word(out, clause)?;
+    say::word(out, dropped)?;
+    say::line_end(out)
 }
 
-fn say_proposal(answer: Proposal) -> bool
+fn say_proposal<W: Write>(out: &mut W, answer: Proposal) -> io::Result<()>
     requires { Numbered answer }
 {
     match answer {
@@ -48,17 +53,17 @@ fn say_proposal(answer: Proposal) -> bool
             dropped,
         } => {
             let bits = f32::to_bits(activity);
-            say_choice(candidate, parent, clause, bits, count, dropped)
+            say_choice(out, candidate, parent, clause, bits, count, dropped)
         }
-        Proposal::Nothing { dropped } => say::named(b"nothing", dropped),
-        Proposal::Dead { clause, dropped } => say_dead(clause, dropped),
-        Proposal::Refused(n) => say::refused(n),
+        Proposal::Nothing { dropped } => say::named(out, b"nothing", dropped),
+        Proposal::Dead { clause, dropped } => say_dead(out, clause, dropped),
+        Proposal::Refused(n) => say::refused(out, n),
     }
 }
 
-pub fn make(s: &mut [u32; WORD_ROOM], call: u64) -> bool {
+pub fn make<W: Write>(out: &mut W, s: &mut [u32; WORD_ROOM], call: u64) -> io::Result<()> {
     match call {
-        names::SYNC => say_synced(sync::sync(s)),
-        _ => say_proposal(proposal::propose(s)),
+        names::SYNC => say_synced(out, sync::sync(s)),
+        _ => say_proposal(out, proposal::propose(s)),
     }
 }

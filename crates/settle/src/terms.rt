@@ -5,6 +5,7 @@ use conditions::{Holds, Rewritten};
 use script::lists::Taken;
 use script::words::MOST_WORDS;
 use script::{lists, names, parts, say, words};
+use std::io::{self, Write};
 use store::limits;
 use store::limits::WORD_ROOM;
 
@@ -14,12 +15,18 @@ const TERMS: usize = limits::MOST_TERMS;
 // The most version sets that they have together.
 const SETS: usize = TERMS * limits::MOST_SETS;
 
-fn say_rewritten(answer: Rewritten, lengths: &[u32; TERMS], cells: &[u32; SETS]) -> bool {
+fn say_rewritten<W: Write>(
+    out: &mut W,
+    answer: Rewritten,
+    lengths: &[u32; TERMS],
+    cells: &[u32; SETS],
+) -> io::Result<()> {
     match answer {
         Rewritten::Terms { terms, cells: _ } => {
-            say::text(b"dnf") && say::lists(parts::first(lengths, store::wide(terms)), cells)
+            say::text(out, b"dnf")?;
+            say::lists(out, parts::first(lengths, store::wide(terms)), cells)
         }
-        Rewritten::Refused(n) => say::refused(n),
+        Rewritten::Refused(n) => say::refused(out, n),
     }
 }
 
@@ -37,7 +44,7 @@ fn room(line: &[u64], i: usize, most: usize) -> usize
 }
 
 // Lends room for so many terms and version sets as the line says, or for all that there can be.
-fn dnf(s: &[u32; WORD_ROOM], line: &[u64]) -> bool {
+fn dnf<W: Write>(out: &mut W, s: &[u32; WORD_ROOM], line: &[u64]) -> io::Result<()> {
     let mut lengths = [0u32; TERMS];
     let mut cells = [0u32; SETS];
     let terms = room(line, 2, TERMS);
@@ -48,14 +55,14 @@ fn dnf(s: &[u32; WORD_ROOM], line: &[u64]) -> bool {
         &mut lengths[0..terms],
         &mut cells[0..sets],
     );
-    say_rewritten(answer, &lengths, &cells)
+    say_rewritten(out, answer, &lengths, &cells)
 }
 
-fn say_holds(answer: Holds) -> bool {
+fn say_holds<W: Write>(out: &mut W, answer: Holds) -> io::Result<()> {
     match answer {
-        Holds::Yes => say::text(b"holds 1\n"),
-        Holds::No => say::text(b"holds 0\n"),
-        Holds::Refused(n) => say::refused(n),
+        Holds::Yes => say::text(out, b"holds 1\n"),
+        Holds::No => say::text(out, b"holds 0\n"),
+        Holds::Refused(n) => say::refused(out, n),
     }
 }
 
@@ -89,10 +96,8 @@ fn take_kinds(
     lengths: &mut [u32; MOST_WORDS],
 ) {
     let mut start: usize = 0;
-    let mut j: usize = 0;
-    while j < count {
+    for j in 0..count {
         start = take_kind(j, start, cells, kinds, starts, lengths);
-        j += 1;
     }
 }
 
@@ -104,7 +109,7 @@ fn collect(line: &[u64], lengths: &mut [u32; MOST_WORDS], cells: &mut [u32; MOST
     lists::collect(line, 1, lengths, cells)
 }
 
-fn holds(s: &[u32; WORD_ROOM], line: &[u64]) -> bool {
+fn holds<W: Write>(out: &mut W, s: &[u32; WORD_ROOM], line: &[u64]) -> io::Result<()> {
     let mut kinds = [0u32; MOST_WORDS];
     let mut starts = [0u32; MOST_WORDS];
     let mut lengths = [0u32; MOST_WORDS];
@@ -112,18 +117,24 @@ fn holds(s: &[u32; WORD_ROOM], line: &[u64]) -> bool {
     let taken = collect(line, &mut lengths, &mut cells);
     let count = taken.lists;
     take_kinds(count, &cells, &mut kinds, &mut starts, &mut lengths);
-    say_holds(conditions::disjunct_holds(
+    let answer = conditions::disjunct_holds(
         s,
         parts::first_of(&kinds, count),
         parts::first_of(&starts, count),
         parts::first_of(&lengths, count),
         parts::first_of(&cells, taken.cells),
-    ))
+    );
+    say_holds(out, answer)
 }
 
-pub fn make(s: &[u32; WORD_ROOM], line: &[u64], call: u64) -> bool {
+pub fn make<W: Write>(
+    out: &mut W,
+    s: &[u32; WORD_ROOM],
+    line: &[u64],
+    call: u64,
+) -> io::Result<()> {
     match call {
-        names::DNF => dnf(s, line),
-        _ => holds(s, line),
+        names::DNF => dnf(out, s, line),
+        _ => holds(out, s, line),
     }
 }
