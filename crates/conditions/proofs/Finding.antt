@@ -70,10 +70,10 @@ module _ {w counts : List ℕ} {c k i : ℕ} (at-k : Located w counts c k i) whe
         let z : i ≡ 0 = omega (arith, at-k.asked.there) in
         rw (leaf-is, z)
 
-  module _ (isAnd : at node_kinds k w ≡ and_kind) where
+  module _ (is_and : at node_kinds k w ≡ and_kind) where
     and_is : linked w c ≡ cross L R
     unfolding node_terms
-    and_is = linked-at w at-k.sound c k at-k.is ∙ rw isAnd
+    and_is = linked-at w at-k.sound c k at-k.is ∙ rw is_and
 
     and-length : length (linked w c) ≡ length L * length R
     and-length = ap length and_is ∙ length_cross L R
@@ -107,7 +107,7 @@ module _ {w counts : List ℕ} {c k i : ℕ} (at-k : Located w counts c k i) whe
         rw counted
         (l-below, record { inside = omega (arith, at-k.asked.inside, l-below); there = q; few = L-few }, r-below, record { inside = omega (arith, at-k.asked.inside, r-below); there = m; few = R-few }, rw (and_is) (ap (λ n. get_or (cross L R) n []) (sym (div-add-mod' i (length R))) ∙ at-cross L R (i / length R) (i % length R) q m))
 
-  module _ (noLeaf : at node_kinds k w ≡ leaf_kind → ⊥) (noAnd : at node_kinds k w ≡ and_kind → ⊥) where
+  module _ (no_leaf : at node_kinds k w ≡ leaf_kind → ⊥) (no_and : at node_kinds k w ≡ and_kind → ⊥) where
     loaded : at node_kinds k w ≡ 0 → ⊥
     unfolding node_terms
     loaded z =
@@ -117,7 +117,7 @@ module _ {w counts : List ℕ} {c k i : ℕ} (at-k : Located w counts c k i) whe
 
     or_is : linked w c ≡ L ++ R
     unfolding node_terms
-    or_is = linked-at w at-k.sound c k at-k.is ∙ rw (ne_eqb (at node_kinds k w) 0 loaded, ne_eqb (at node_kinds k w) leaf_kind noLeaf, ne_eqb (at node_kinds k w) and_kind noAnd)
+    or_is = linked-at w at-k.sound c k at-k.is ∙ rw (ne_eqb (at node_kinds k w) 0 loaded, ne_eqb (at node_kinds k w) leaf_kind no_leaf, ne_eqb (at node_kinds k w) and_kind no_and)
 
     or-length : length (linked w c) ≡ length L + length R
     or-length = ap length or_is ∙ length-append L R

@@ -14,7 +14,7 @@ use Rattle.requirement.specs.Tables.{cells_of, first_slot, list_count}
 use Rattle.rules.proofs.Choice.{eq_or, lt_or}
 use Rattle.store.specs.Area.{at}
 use Rattle.store.specs.Layout.{list_starts, list_lengths, single_cells, candidates, disjunction_starts, disjunction_sizes, literal_variables}
-use Rattle.store.specs.Limits.{variables, version_sets, union_room, cell_room, disjunctions, literal_room, requirements, lists, last_variable, most_disjunction_size}
+use Rattle.store.specs.Limits.{variables, version_sets, union_room, cell_room, literal_room, requirements, lists, last_variable, most_disjunction_size}
 use Rattle.rules.specs.Numbers.{from}
 use Rattle.tables.specs.Disjunction.{literals_of, literals_under}
 use Rattle.store.specs.Shape.{lies, unions_from, Sound}

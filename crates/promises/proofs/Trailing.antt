@@ -81,43 +81,43 @@ module _ (w : List ℕ) (variable value level clause : ℕ) (f : Fitting w varia
   abbrev after : List ℕ
   after = pushed w variable value level clause
 
-  abbrev toMap : Write
-  toMap = write map variable (cell_of value level)
+  abbrev to_map : Write
+  to_map = write map variable (cell_of value level)
 
-  abbrev toVariables : Write
-  toVariables = write trail_variables (entries w) variable
+  abbrev to_variables : Write
+  to_variables = write trail_variables (entries w) variable
 
-  abbrev toValues : Write
-  toValues = write trail_values (entries w) value
+  abbrev to_values : Write
+  to_values = write trail_values (entries w) value
 
-  abbrev toRest : List Write
-  toRest = write trail_clauses (entries w) clause ∷ write trail_length 0 (entries w + 1) ∷ []
+  abbrev to_rest : List Write
+  to_rest = write trail_clauses (entries w) clause ∷ write trail_length 0 (entries w + 1) ∷ []
 
-  rest_in : Inside toRest
+  rest_in : Inside to_rest
   rest_in = (f.room, (omega arith, tt))
 
   -- the map has the variable's new cell
   pushed-cell : words ≤ length w → at map variable after ≡ cell_of value level
   unfolding pushed
-  pushed-cell long = at-puts-here map variable (cell_of value level) [] (toVariables ∷ toValues ∷ toRest) w (omega (arith, long)) f.variable< tt (f.room, (f.room, rest_in))
+  pushed-cell long = at-puts-here map variable (cell_of value level) [] (to_variables ∷ to_values ∷ to_rest) w (omega (arith, long)) f.variable< tt (f.room, (f.room, rest_in))
 
   pushed-cells : (v : ℕ) → v ≢ variable → at map v after ≡ at map v w
   unfolding pushed
-  pushed-cells v d = at-puts_else map variable v (cell_of value level) [] (toVariables ∷ toValues ∷ toRest) w d f.variable< tt tt tt (f.room, (f.room, rest_in))
+  pushed-cells v d = at-puts_else map variable v (cell_of value level) [] (to_variables ∷ to_values ∷ to_rest) w d f.variable< tt tt tt (f.room, (f.room, rest_in))
 
   -- the trail has its entry behind those it had
   pushed-entry : words ≤ length w → entry_at after (entries w) ≡ record { variable = variable; positive = eqb value 1 }
   unfolding pushed entry_at
   pushed-entry long =
-      let p = at-puts-here trail_variables (entries w) variable (toMap ∷ []) (toValues ∷ toRest) w (omega (arith, long)) f.room tt (f.room, rest_in) in
-      let q = at-puts-here trail_values (entries w) value (toMap ∷ toVariables ∷ []) toRest w (omega (arith, long)) f.room tt rest_in in
+      let p = at-puts-here trail_variables (entries w) variable (to_map ∷ []) (to_values ∷ to_rest) w (omega (arith, long)) f.room tt (f.room, rest_in) in
+      let q = at-puts-here trail_values (entries w) value (to_map ∷ to_variables ∷ []) to_rest w (omega (arith, long)) f.room tt rest_in in
       λ i. record { variable = p i; positive = eqb (q i) 1 }
 
   pub pushed-entries : (k : ℕ) → k < entries w → entry_at after k ≡ entry_at w k
   unfolding pushed
   pushed-entries k l =
-      let p = at-puts_else trail_variables (entries w) k variable (toMap ∷ []) (toValues ∷ toRest) w (omega arith) f.room tt (f.variable<, tt) tt (f.room, rest_in) in
-      let q = at-puts_else trail_values (entries w) k value (toMap ∷ toVariables ∷ []) toRest w (omega arith) f.room tt (f.variable<, (f.room, tt)) tt rest_in in
+      let p = at-puts_else trail_variables (entries w) k variable (to_map ∷ []) (to_values ∷ to_rest) w (omega arith) f.room tt (f.variable<, tt) tt (f.room, rest_in) in
+      let q = at-puts_else trail_values (entries w) k value (to_map ∷ to_variables ∷ []) to_rest w (omega arith) f.room tt (f.variable<, (f.room, tt)) tt rest_in in
       entry_by after w k p q
 
   pushed-genuine : Genuine w → Genuine (pushed w variable value level clause)
@@ -153,17 +153,17 @@ module _ (w : List ℕ) (g : Genuine w) where
   abbrev last : ℕ
   last = at trail_variables (entries w - 1) w
 
-  abbrev toCounts : List Write
-  toCounts = write trail_length 0 (entries w - 1) ∷ write propagated 0 (entries w - 1) ∷ write sync_floor 0 (min (at sync_floor 0 w) (entries w - 1)) ∷ []
+  abbrev to_counts : List Write
+  to_counts = write trail_length 0 (entries w - 1) ∷ write propagated 0 (entries w - 1) ∷ write sync_floor 0 (min (at sync_floor 0 w) (entries w - 1)) ∷ []
 
   -- the popped variable's cell is zero
   popped-cell : at map last (popped w) ≡ 0
   unfolding popped
-  popped-cell = at-puts-here map last 0 [] toCounts w (omega (arith, fit.long)) (fit.named (entries w - 1)) tt (omega arith, (omega arith, (omega arith, tt)))
+  popped-cell = at-puts-here map last 0 [] to_counts w (omega (arith, fit.long)) (fit.named (entries w - 1)) tt (omega arith, (omega arith, (omega arith, tt)))
 
   popped-cells : (v : ℕ) → v ≢ last → at map v (popped w) ≡ at map v w
   unfolding popped
-  popped-cells v d = at-puts_else map last v 0 [] toCounts w d (fit.named (entries w - 1)) tt tt tt (omega arith, (omega arith, (omega arith, tt)))
+  popped-cells v d = at-puts_else map last v 0 [] to_counts w d (fit.named (entries w - 1)) tt tt tt (omega arith, (omega arith, (omega arith, tt)))
 
   popped-genuine : 0 < entries w → Genuine (popped w)
   unfolding assigned cell_value

@@ -1,7 +1,7 @@
 -- WHICH CLAUSES A PROPOSAL DROPS FROM THE QUEUE: those that the walk examines and finds not open; and how many.
 use Rattle.std.specs.Prelude.{Bool, List, ℕ}
 use Rattle.meaning.specs.Standing.{env_of, mark_of}
-use Rattle.rules.specs.Leaving.{Dies as DiesAt, examined as examinedBy}
+use Rattle.rules.specs.Leaving.{Dies as DiesAt, examined as examined_by}
 use Rattle.rules.specs.Queue.{tally}
 use Rattle.proposal.specs.declared.Proposal.{Proposal}
 use Rattle.proposal.specs.declared.Proposal.TheVariants.{Choose as Chosen, Nothing as NoneOpen, Dead as DeadAt, Refused}
@@ -11,7 +11,7 @@ use Rattle.trail.specs.Assignment.{assigned}
 
 -- a clause that is examined where it is queued
 abbrev pub examined : List ℕ → ℕ → Bool
-examined w k = examinedBy (env_of w) (assigned w) k
+examined w k = examined_by (env_of w) (assigned w) k
 
 -- the walk examines a dead clause of this id
 abbrev pub Dies : List ℕ → ℕ → Type 0

@@ -1,5 +1,4 @@
 use Rattle.clauses.specs.Record.{clause_at}
-use Rattle.store.specs.Area.{at}
 use Rattle.clauses.proofs.records.clause_at.Goals as goal
 
 pub returns : goal.returns

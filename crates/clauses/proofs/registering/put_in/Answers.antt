@@ -5,7 +5,6 @@ use borrow.Author.Rules.{rules}
 use Rattle.clauses.specs.Record.{parent_at}
 use Rattle.rules.proofs.Ranks.{behind-most}
 use Rattle.clauses.proofs.Registers.{clause-is, all-put}
-use Rattle.store.specs.Area.{at}
 use Rattle.clauses.proofs.registering.put_in.Goals as goal
 
 pub names_of-requires : goal.names_of-requires

@@ -1,6 +1,5 @@
 use mathlib.Core.Path.{sym, ◌∙◌}
 use Rattle.clauses.proofs.Registers.{done-placed, done-named, done-left, refused-left}
-use Rattle.store.specs.Area.{at}
 use Rattle.clauses.proofs.registering.register.Goals as goal
 
 pub put_in-requires : goal.put_in-requires
