@@ -249,7 +249,11 @@ fn answer_all<R: Read, W: Write>(rt: &impl Eprint, input: &mut R, out: &mut W, i
 
 fn main(rt: HostRuntime) {
     match BufWriter::new(rt.alloc(), rt.stdout()) {
-        Ok(mut out) => answer_all(&rt, &mut rt.stdin(), &mut out, is_echo_asked(&rt)),
+        Ok(mut out) => {
+            answer_all(&rt, &mut rt.stdin(), &mut out, is_echo_asked(&rt));
+            // All is put out, or a write failed and was told: what it left is not tried again.
+            let _ = out.into_parts();
+        }
         Err(error) => tell_unwritten(&rt, &error),
     }
 }

@@ -1,5 +1,4 @@
 use mathlib.Core.Path.{sym, ap, ◌∙◌}
-use Prim.Native.Nat.{◌-◌}
 use native.Mathlib.Omega.{arith}
 use Rattle.examine.proofs.Literals.{literals_fail, literals_next, literals_end}
 use Rattle.rules.proofs.Froms.{from_begin}

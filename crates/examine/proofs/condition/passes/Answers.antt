@@ -1,6 +1,5 @@
 use mathlib.Core.Path.{◌∙◌}
 use Rattle.meaning.proofs.Reading.{literals-inside, literals_under_lem}
-use Rattle.rules.specs.Walk.{all_false}
 use Rattle.examine.proofs.condition.passes.Goals as goal
 
 pub all_false-requires : goal.all_false-requires

@@ -1,5 +1,4 @@
 use mathlib.Core.Path.{sym, ◌∙◌}
-use Prim.Native.Nat.{◌-◌}
 use native.Mathlib.Omega.{arith}
 use Rattle.examine.proofs.Cells.{count_more, count_same, count-done}
 use Rattle.meaning.proofs.Reading.{cell_variable}

@@ -1,5 +1,4 @@
 use mathlib.Core.Path.{refl, sym, ◌∙◌}
-use Prim.Native.Nat.{◌-◌}
 use native.Mathlib.Omega.{arith}
 use Rattle.examine.proofs.Cells.{search_hit, search_next, search_none}
 use Rattle.trail.specs.Assignment.{assigned_true}

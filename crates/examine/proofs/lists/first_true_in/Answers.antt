@@ -1,5 +1,4 @@
 use mathlib.Core.Path.{sym, ap, ◌∙◌}
-use Prim.Native.Nat.{◌-◌}
 use native.Mathlib.Omega.{arith}
 use Rattle.examine.proofs.Scans.{lists_hit, lists_next, lists-none}
 use Rattle.rules.proofs.Froms.{from_begin}

@@ -1,5 +1,4 @@
 use mathlib.Core.Path.{refl, sym, ◌∙◌}
-use Prim.Native.Nat.{◌-◌}
 use native.Mathlib.Omega.{arith}
 use Rattle.examine.proofs.Cells.{undecided_in, search_hit, search_next, search_none}
 use Rattle.meaning.proofs.Reading.{cell_variable}

@@ -1,5 +1,4 @@
 use mathlib.Core.Path.{sym, ap, ◌∙◌}
-use Prim.Native.Nat.{◌-◌}
 use native.Mathlib.Omega.{arith}
 use Rattle.examine.proofs.Scans.{frontier_hit, frontier_next, frontier-none}
 use Rattle.rules.proofs.Froms.{from_begin}
