@@ -1,18 +1,19 @@
 -- How long terms are: a term's length by those of its parts, and the sum over all terms. Assumes nothing.
 use mathlib.Core.Bool.{true, false}
 use mathlib.Core.List.{List}
-use mathlib.Core.Path.{◌≡◌, refl, ap, ◌∙◌}
+use mathlib.Core.Path.{◌≡◌, refl, sym, ap, ◌∙◌}
 use Prim.Native.Nat.{ℕ, zero, suc, ◌+◌, ◌-◌, ◌*◌, ◌≤◌, ◌<◌, min}
-use native.Mathlib.Nat.{zero-add}
+use native.Mathlib.Nat.{zero-add, min-eq_left}
 use native.Mathlib.Numerals.{add-one}
 use native.Mathlib.Omega.{arith}
 use borrow.Author.Tests.{leb-true, le-leb, lt-leb}
+use lib.Dec.{T}
 use lib.ListN.{length, length-append}
-use Rattle.store.specs.Limits.{most_sets}
-use Rattle.conditions.proofs.Terms.{min_below, min_above, min_small}
+use Rattle.store.specs.Limits.{most_terms, most_sets}
+use Rattle.conditions.proofs.Terms.{min_most, min_below, min_above, min_small, sat_add}
 use Rattle.conditions.specs.Dnf.{term_of}
 use Rattle.conditions.specs.Steps.{short_at, cells_to}
-use Rattle.conditions.specs.Ways.{Good}
+use Rattle.conditions.specs.Ways.{Asked, AllAsked, Good}
 use Rattle.conditions.specs.declared.Way.TheVariants.{Two}
 use Rattle.rules.proofs.Loops.{all-at}
 use Rattle.rules.specs.Numbers.{all_from}
@@ -21,6 +22,24 @@ use Rattle.rules.specs.Numbers.{all_from}
 module _ (w : List ℕ) (c i d m e n : ℕ) (two : Good w c i (Two d m e n)) where
   pub parts_length : length (term_of w c i) ≡ length (term_of w d m) + length (term_of w e n)
   parts_length = ap length two.4 ∙ length-append (term_of w d m) (term_of w e n)
+
+  -- a first part above the limit settles the whole
+  pub long-first : (x : ℕ) → x ≡ min (most_sets + 1) (length (term_of w d m)) → most_sets < x → x ≡ min (most_sets + 1) (length (term_of w c i))
+  long-first x f h =
+      let most = min_most (most_sets + 1) (length (term_of w d m)) in
+      let a = min_above (most_sets + 1) (length (term_of w d m)) (omega arith) in
+      let t : most_sets + 1 ≤ length (term_of w c i) = omega (arith, parts_length) in
+      let z : x ≡ most_sets + 1 = omega arith in
+      z ∙ sym (min-eq_left t)
+
+  pub sum_capped : (x y r : ℕ) → x ≡ min (most_sets + 1) (length (term_of w d m)) → y ≡ min (most_sets + 1) (length (term_of w e n)) → r ≡ min (most_sets + 1) (x + y) → r ≡ min (most_sets + 1) (length (term_of w c i))
+  sum_capped x y r f g h = h ∙ rw (f, g, parts_length) (sat_add (most_sets + 1) (length (term_of w d m)) (length (term_of w e n)))
+
+pub capped_most : (T : List ℕ) (x : ℕ) → x ≡ min (most_sets + 1) (length T) → x ≤ most_sets + 1
+capped_most T x e = rw e (min_most (most_sets + 1) (length T))
+
+pub asked-at : (w : List ℕ) (c n i : ℕ) → AllAsked w c n → i < n → Asked w c i
+asked-at w c n i h l = record { inside = h.inside; there = omega (arith, h.all); few = omega (arith, h.all, h.few) }
 
 -- what the counted length says of a term
 module _ (w : List ℕ) (c i x : ℕ) (is : x ≡ min (most_sets + 1) (length (term_of w c i))) where
@@ -64,6 +83,11 @@ summed_more w c n i sum x y so h short e f =
     let s = short_length w c n i short h in
     let q : y ≡ length (term_of w c i) = f ∙ e ∙ min_small (most_sets + 1) (length (term_of w c i)) (omega arith) in
     record { inside = omega arith; is = cells_more w c i sum y so.is q; most = omega (arith, so.most) }
+
+pub summed_done : (w : List ℕ) (c n i sum : ℕ) → Summed w c n i sum → n ≤ i → n ≤ most_terms → (sum ≡ cells_to w c n) × (sum ≤ most_terms * most_sets)
+summed_done w c n i sum so h few =
+    let e : i ≡ n = omega (arith, so.inside) in
+    (so.is ∙ ap (cells_to w c) e, omega (arith, so.most))
 
 cells_grow : (w : List ℕ) (c i d : ℕ) → cells_to w c i ≤ cells_to w c (d + i)
 unfolding cells_to

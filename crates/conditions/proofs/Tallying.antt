@@ -8,7 +8,7 @@ use native.Mathlib.Omega.{arith}
 use lib.ListN.{length, get_or, set}
 use lib.Seq.{get_or-set_same, get_or-set_other}
 use Rattle.store.specs.Limits.{most_terms}
-use Rattle.conditions.proofs.Terms.{count_node, linked-at}
+use Rattle.conditions.proofs.Terms.{min_most, count_node, linked-at}
 use Rattle.conditions.specs.Dnf.{dnf, linked}
 use Rattle.conditions.specs.Ways.{count_of}
 use Rattle.rules.proofs.Choice.{eq_or}
@@ -23,6 +23,9 @@ tally-start w counts e zero h = e
 tally-start w counts e (suc c) h = absurd (omega arith)
 
 module _ (w counts : List ℕ) (k : ℕ) (so : (c : ℕ) → c ≤ k → get_or counts c 0 ≡ min (most_terms + 1) (length (linked w c))) where
+  pub tally-most : (c : ℕ) → c ≤ k → get_or counts c 0 ≤ most_terms + 1
+  tally-most c h = rw (so c h) (min_most (most_terms + 1) (length (linked w c)))
+
   pub tally_more : Sound w → (kind a b x : ℕ) → kind ≡ at node_kinds k w → a ≡ at node_lefts k w → b ≡ at node_rights k w → x ≡ min (most_terms + 1) (count_of kind (get_or counts a 0) (get_or counts b 0)) → k + 1 < length counts → (c : ℕ) → c ≤ k + 1 → get_or (set counts (k + 1) x) c 0 ≡ min (most_terms + 1) (length (linked w c))
   tally_more sound kind a b x e f g h l c m =
       ⊎_elim

@@ -55,6 +55,9 @@ module _ (m : ℕ) where
   least : (n : ℕ) → ((n ≤ m) × (min m n ≡ n)) ⊎ ((m ≤ n) × (min m n ≡ m))
   least n = ⊎_elim (λ (h : n < m). inl (le_of_lt h, min-eq_right (le_of_lt h))) (λ (h : m ≤ n). inr (h, min-eq_left h)) (lt_or n m)
 
+  pub min_most : (n : ℕ) → min m n ≤ m
+  min_most n = ⊎_elim (λ (h : (n ≤ m) × (min m n ≡ n)). omega arith) (λ (h : (m ≤ n) × (min m n ≡ m)). omega arith) (least n)
+
   pub min_below : (n : ℕ) → min m n < m → min m n ≡ n
   min_below n l = ⊎_elim (λ (h : (n ≤ m) × (min m n ≡ n)). h.1) (λ (h : (m ≤ n) × (min m n ≡ m)). absurd (omega arith)) (least n)
 

@@ -1,6 +1,6 @@
 -- WHERE THE WALK STANDS: what is left of it, from here, is the whole answer. One turn of it, by what the clause is found to be; the way to the next
 -- queued clause; and its ends. Assumes nothing.
-use mathlib.Core.Bool.{Bool, true, false, cond, ◌&&◌}
+use mathlib.Core.Bool.{true, false}
 use mathlib.Core.List.{List, [], ◌∷◌}
 use mathlib.Core.Path.{◌≡◌, refl, sym, ap, ◌∙◌}
 use Prim.Native.Nat.{ℕ, suc, ◌+◌, ◌-◌, ◌≤◌, ◌<◌}
@@ -18,7 +18,7 @@ use Rattle.rules.proofs.Choice.{and_none, true_false}
 use Rattle.rules.proofs.Froms.{upto_done, upto_next}
 use Rattle.rules.proofs.Loops.{first_along, first-least, first_passes}
 use Rattle.rules.specs.Activity.{last_activity}
-use Rattle.rules.specs.Numbers.{first_from, from}
+use Rattle.rules.specs.Numbers.{from}
 use Rattle.rules.specs.Queue.{Answer, after_examining, queued_turn}
 use Rattle.rules.specs.Walk.{Environment, after_finding, best, best_of, examines, up_to}
 use Rattle.store.specs.Area.{at}

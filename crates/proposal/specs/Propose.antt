@@ -1,5 +1,5 @@
 -- The proposal at the words: the walk over the queued clauses, its answer as document 01 gives it, and the words that it leaves.
-use Rattle.std.specs.Prelude.{Bool, true, false, not, cond, ◌||◌, ◌≡◌, ℕ, ◌-◌, T, ltb}
+use Rattle.std.specs.Prelude.{Bool, true, false, not, ◌||◌, ◌≡◌, ℕ, ◌-◌, T, ltb}
 use mathlib.Core.List.{List, [], ◌∷◌, foldl}
 use Rattle.std.specs.Float.{binary32}
 use Rattle.std.specs.Float.Ieee.{is_nan, of_bits, to_bits}
@@ -14,7 +14,7 @@ use Rattle.store.specs.Layout.{clause_count, clause_ids, clause_parents, mirror_
 use Rattle.trail.specs.Assignment.{floor_of}
 use Rattle.trail.specs.Entries.{entries}
 use Rattle.store.specs.Refusals.{dead_clause, not_synced}
-use Rattle.store.specs.Row.{Row, Test, ◌if◌, answer_sound, answer_any, left_sound, left_any}
+use Rattle.store.specs.Row.{Row, ◌if◌}
 use Rattle.rules.specs.declared.Best.{Best}
 use Rattle.rules.specs.declared.Out.{Out}
 use Rattle.rules.specs.declared.Out.TheVariants.{Nothing, Choose}

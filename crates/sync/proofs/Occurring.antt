@@ -1,19 +1,17 @@
 -- Searches for a touched variable: over the cells of a list, the lists of a requirement, the literals of a condition. Assumes nothing.
 use mathlib.Core.Bool.{Bool, true, false, ◌||◌}
 use mathlib.Core.List.{List, [], ◌∷◌, ◌++◌}
-use mathlib.Core.Logic.{◌≢◌}
 use mathlib.Core.Path.{◌≡◌, refl, sym, ap, ◌∙◌}
 use Prim.Native.Nat.{ℕ, ◌+◌, ◌-◌, ◌≤◌, ◌<◌}
 use native.Mathlib.Omega.{arith}
-use borrow.Author.Tests.{eq-eqb, ne_eqb}
 use Rattle.rules.proofs.Froms.{from_begin, from_next, from-done}
-use Rattle.meaning.specs.View.{run, list_at, lists_at, literal_at, literals_at}
+use Rattle.meaning.specs.View.{run, list_at, lists_at, literal_at}
 use Rattle.requirement.specs.Tables.{first_slot, list_count, cells_of}
 use Rattle.rules.specs.Sync.{meets, mentions}
 use Rattle.rules.specs.Walk.{Literal, CandidateList, flattened, member}
 use Rattle.rules.proofs.Choice.{or_assoc}
 use Rattle.store.specs.Area.{at}
-use Rattle.store.specs.Layout.{candidates, disjunction_starts, disjunction_sizes, literal_variables}
+use Rattle.store.specs.Layout.{candidates, literal_variables}
 use Rattle.store.specs.Limits.{cell_room}
 use Rattle.store.specs.Shape.{Sound}
 use Rattle.rules.specs.Numbers.{from}

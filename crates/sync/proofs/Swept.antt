@@ -10,11 +10,8 @@ use lib.Dec.{T, ltb, eqb}
 use Rattle.meaning.specs.Standing.{of_clause, env_of, cache_by, cache_of, mark_of, queue_of}
 use Rattle.meaning.specs.View.{lists_at}
 use Rattle.rules.proofs.Sweeps.{routes-swept}
-use Rattle.rules.specs.Sync.{routes, spoiled, spoils}
-use Rattle.rules.specs.Walk.{CandidateList}
-use Rattle.rules.specs.declared.Cache.{Cache}
-use Rattle.rules.specs.declared.Cache.TheVariants.{Dirty, Known}
-use Rattle.rules.specs.declared.State.TheVariants.{Satisfied, Frontier}
+use Rattle.rules.specs.Sync.{routes, spoiled}
+use Rattle.rules.specs.declared.Cache.TheVariants.{Dirty}
 use Rattle.store.proofs.AreaLaws.{at-past}
 use Rattle.rules.proofs.Choice.{lt_or, or_none, or_true}
 use Rattle.store.specs.Area.{Area, at, apart}
@@ -25,9 +22,7 @@ use Rattle.sync.proofs.Kept.{few, woken_length, woken-area, spoiled-area, swept-
 use Rattle.sync.proofs.Sweeping.{at-sweep}
 use Rattle.sync.proofs.Tests.{none_wakes, cache_kept, spoils_kept}
 use Rattle.sync.specs.Sync.{wakes_at, spoils_at, woken_words, spoiled_words, swept_words}
-use Rattle.rules.specs.declared.Value.{Value}
 use Rattle.trail.specs.Assignment.{assigned}
-use Rattle.rules.specs.declared.State.TheVariants as state
 
 -- a cache whose state word becomes 0 is dirty
 cache_zero : (a b c : ℕ) → cache_by 0 a b c ≡ Dirty

@@ -1,5 +1,4 @@
 use mathlib.Core.Path.{ap, ◌∙◌}
-use Prim.Native.Nat.{◌-◌}
 use native.Mathlib.Omega.{arith}
 use Rattle.rules.proofs.Froms.{from_begin}
 use Rattle.proposal.proofs.Steps.{hot_hit, hot_next, hot-none, name_below}

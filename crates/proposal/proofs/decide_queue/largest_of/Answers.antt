@@ -1,5 +1,4 @@
 use mathlib.Core.Path.{ap, ◌∙◌}
-use Prim.Native.Nat.{◌-◌}
 use native.Mathlib.Omega.{arith}
 use Rattle.proposal.proofs.Steps.{largest_kept, largest_more, largest-none}
 use Rattle.proposal.specs.Turn.{largest_at}

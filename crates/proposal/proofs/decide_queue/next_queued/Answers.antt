@@ -1,5 +1,4 @@
 use mathlib.Core.Path.{refl, sym, ◌∙◌, ap}
-use Prim.Native.Nat.{◌-◌}
 use native.Mathlib.Omega.{arith}
 use Rattle.meaning.proofs.Records.{clause-inside}
 use Rattle.meaning.proofs.Clauses.{mark_clear, mark_set}

@@ -1,6 +1,4 @@
 use mathlib.Core.Path.{refl, sym, ◌∙◌}
-use mathlib.Core.Bool.{true}
-use Prim.Native.Nat.{◌-◌}
 use native.Mathlib.Omega.{arith}
 use Rattle.proposal.proofs.Walking.{as_told, first-best, hand_ready, next_less, next_ready, sane-beside, sane-dead, sane-nothing, stage_beside, stage_dead, stage_ends, stage_first, stage_handed, stage_next, stage_open, stage_ready, stage_shut}
 use Rattle.proposal.proofs.decide_queue.walk.Goals as goal

@@ -1,6 +1,4 @@
 use mathlib.Core.Path.{sym, ◌∙◌}
-use mathlib.Core.Bool.{true}
-use Prim.Native.Nat.{◌-◌}
 use native.Mathlib.Omega.{arith}
 use Rattle.proposal.proofs.Walking.{as_told, next_less, next_ready, sane_choose, sane-dead, stage_begin, stage_ends, stage_next}
 use Rattle.proposal.proofs.Weighing.{one_ends, weigh_ready, weighed-beside, weighed-dead, weighed_enough, weighed_on}

@@ -1,5 +1,4 @@
 use mathlib.Core.Path.{refl}
-use Prim.Native.Nat.{◌-◌}
 use native.Mathlib.Omega.{arith}
 use Rattle.store.specs.Layout.{trail_length}
 use Rattle.store.specs.Limits.{trail_room}

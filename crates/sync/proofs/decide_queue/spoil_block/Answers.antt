@@ -1,5 +1,4 @@
 use mathlib.Core.Path.{sym, ◌∙◌}
-use Prim.Native.Nat.{◌-◌}
 use native.Mathlib.Omega.{arith}
 use Rattle.sync.proofs.Turns.{spoiling_none, spoiling_length, spoiling_sound, spoiling_set, spoiling_skip, spoiling_end}
 use Rattle.sync.specs.Table.{in_table}

@@ -1,5 +1,4 @@
 use mathlib.Core.Path.{sym, ◌∙◌}
-use Prim.Native.Nat.{◌-◌}
 use native.Mathlib.Omega.{arith}
 use Rattle.meaning.proofs.Reading.{cell_variable}
 use Rattle.sync.proofs.Occurring.{cell_touched, cell_at, any_start, any_hit, any_next, any_none, run_any, cell_test}

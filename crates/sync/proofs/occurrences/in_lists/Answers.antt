@@ -1,5 +1,4 @@
 use mathlib.Core.Path.{sym, ◌∙◌}
-use Prim.Native.Nat.{◌-◌}
 use native.Mathlib.Omega.{arith}
 use Rattle.meaning.specs.View.{list_at}
 use Rattle.sync.proofs.Occurring.{list_touched, any_start, any_hit, any_next, any_none, lists_any, list_test}

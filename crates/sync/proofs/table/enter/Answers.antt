@@ -1,5 +1,4 @@
 use mathlib.Core.Path.{refl, ◌∙◌}
-use Prim.Native.Nat.{◌-◌}
 use native.Mathlib.Omega.{arith}
 use Rattle.sync.proofs.Touched.{enter_turn, enter_done}
 use Rattle.sync.proofs.Turns.{entry_variable}
