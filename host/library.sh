@@ -51,7 +51,8 @@ unchecked) crate=unchecked ;;
 esac
 # The module's lengths have 64 bits whatever it is compiled for, and those of the header are as long as a pointer.
 case $wanted in
-x86_64 | aarch64) ;;
+x86_64) processor=x86-64 ;;
+aarch64) processor=generic ;;
 *) die "no archive for $wanted: the library is for machines whose pointers have 64 bits, as x86_64 and aarch64" ;;
 esac
 
@@ -64,7 +65,8 @@ if ! is_current "$archive" "$stamp"; then
     begin_proving
     # Another may have written it while this one waited.
     if ! is_current "$archive" "$stamp"; then
-        prove "$crate" rt lib --target "$wanted-unknown-linux-gnu"
+        # For every processor of the kind, whatever the toolchain would take.
+        prove "$crate" rt lib --target "$wanted-unknown-linux-gnu" --cpu "$processor"
         keep "$here/crates/$crate/out/lib$crate.a" "$archive" "$stamp"
     fi
     end_proving

@@ -1,4 +1,4 @@
-use Rattle.std.proofs.Common.{refl, sym, arith, zero-le}
+use Rattle.std.proofs.Common.{refl, arith, zero-le}
 use Rattle.imbolaverk.proofs.Copying.{copied_next}
 use Rattle.imbolaverk.specs.CopyTrail.{copied}
 use Rattle.imbolaverk.proofs.copy_trail.fill.Goals as goal
