@@ -8,7 +8,7 @@ use Prim.Native.Nat.{ℕ, zero, suc, ◌+◌, ◌-◌, ◌≤◌, ◌<◌}
 use native.Mathlib.Numerals.{add-one}
 use native.Mathlib.Omega.{arith}
 use borrow.Author.Tests.{ltb-true, lt-ltb, le-ltb, eq-eqb, ne_eqb}
-use lib.Dec.{T, leb, ltb, eqb}
+use lib.Dec.{T, ltb, eqb}
 use Rattle.clauses.proofs.Kept.{registered-sound, registered-outside}
 use Rattle.clauses.proofs.Ranking.{rank_most}
 use Rattle.clauses.proofs.ReadBack.{Shifted, shifted_each, parent_shifted, requirement_shifted, condition_shifted, id_shifted, mark_shifted, count-registered}
@@ -28,8 +28,8 @@ use Rattle.rules.specs.Walk.{is_true}
 use Rattle.store.proofs.AreaLaws.{at_same, within}
 use Rattle.rules.proofs.Choice.{eq_or, lt_or}
 use Rattle.store.specs.Area.{Area, apart, area, at}
-use Rattle.store.specs.Layout.{activities, clause_conditions, clause_count, clause_ids, clause_parents, clause_requirements, clauses_region, disjunction_sizes, hot_names, map, mirror_region, mode, queued, settings_region, sync_floor, tables_region, trail_region}
-use Rattle.store.specs.Limits.{last_level, last_word, names}
+use Rattle.store.specs.Layout.{activities, clause_conditions, clause_count, clause_ids, clause_parents, clause_requirements, clauses_region, disjunction_sizes, hot_names, mirror_region, mode, queued, settings_region, sync_floor, tables_region, trail_region}
+use Rattle.store.specs.Limits.{last_word, names}
 use Rattle.store.specs.Shape.{Sound, sound_shape}
 use Rattle.tables.specs.Answer.{loaded}
 use Rattle.trail.specs.Assignment.{assigned}

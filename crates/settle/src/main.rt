@@ -164,7 +164,7 @@ fn ended(rt: &impl Eprint, line: Line, got: io::Result<usize>) -> Line {
     }
 }
 
-// Reads once, and answers the lines that end in what came.
+// Reads once, answers the lines that end in what came, and puts the answers out.
 fn read_some<R: Read, W: Write>(
     rt: &impl Eprint,
     input: &mut R,
