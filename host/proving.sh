@@ -34,7 +34,7 @@ crates_of() { # NAME
             print levels[name], name
         }
         { sub(/#.*/, "") }
-        split($0, part, ":") == 2 { gsub(/[ \t]/, "", part[1]); needs[part[1]] = part[2] }
+        split($0, part, ":") == 2 { split(part[1], word, " "); needs[word[1]] = part[2] }
         END { visit(wanted) }' "$here/crates.txt" | sort -s -n -k 1,1 | cut -d ' ' -f 2
 }
 

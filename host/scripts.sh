@@ -123,10 +123,10 @@ while IFS= read -r line; do
 done <shown
 
 # ---- a folder of its own, with a stand-in for rt
-mkdir -p copy/host copy/crates/below copy/crates/settle copy/include bin
+mkdir -p copy/host copy/crates/below copy/crates/imbolaverk copy/crates/imbolaverk_c copy/crates/settle copy/include bin
 cp "$settle" copy/
 cp "$here/host/proving.sh" "$here/host/library.sh" "$here/host/Cargo.toml" copy/host/
-printf 'below:\nbeside:\nimbolaverk: below\nsettle: below\n' >copy/crates.txt
+printf 'below:\nbeside:\nimbolaverk: below\nimbolaverk_c staticlib: below imbolaverk\nsettle: below\n' >copy/crates.txt
 printf 'a\n' >copy/crates/below/source
 printf 'b\n' >copy/crates/settle/source
 cat >bin/uname <<'STANDIN'
@@ -146,6 +146,7 @@ echo 'checked settle::main, 1 of 1'
 sleep 2
 printf '#!/bin/sh\ncat\n' >out/settle
 chmod +x out/settle
+: >out/libimbolaverk_c.a
 rmdir "$ROOM/running"
 STANDIN
 chmod +x bin/uname bin/rt
@@ -181,6 +182,15 @@ ends 0 stood_in copy/settle /dev/null
 printf 'c\n' >>copy/crates/below/source
 ends 0 stood_in copy/settle /dev/null
 [ "$(proofs)" -eq 2 ] || fail "no proof was made though a source changed"
+# The archive is proved with all that it rests on, and has its name.
+ends 0 stood_in copy/host/library.sh imbolaverk
+has err 'library.sh: proving 1 of 3: below'
+[ -e copy/build/library/libimbolaverk.a ] || fail "library.sh wrote no libimbolaverk.a"
+ends 0 stood_in copy/host/library.sh imbolaverk
+is err ''
+printf 'd\n' >>copy/crates/below/source
+ends 0 stood_in copy/host/library.sh imbolaverk
+[ "$(proofs)" -eq 4 ] || fail "the archive was proved $(($(proofs) - 2)) times and not twice, once for each state of its sources"
 
 # ---- without the toolchain
 toolchain=$(sed -n 's/^toolchain=//p' "$here/host/proving.sh")
