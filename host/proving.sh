@@ -44,7 +44,7 @@ stamp_of() { # NAME
         rt version
         cat "$here/crates.txt"
         for crate in $(crates_of "$1"); do
-            (cd "$here/crates/$crate" && find . \( -name must-fail -o -name out \) -prune -o -type f -exec sha256sum {} + | sort -k 2)
+            (cd "$here/crates/$crate" && find . \( -path ./must-fail -o -path ./out \) -prune -o -type f -exec sha256sum {} + | sort -k 2)
         done
     } | sha256sum
 }

@@ -1,5 +1,6 @@
-// The C entry points. Each is total on any arguments, and answers 0 for done or the number of its refusal. In each module a function
-// `.._number` gives the number of an answer, and `give_..` gives it and writes the answer's values to the lent output.
+// The entry points on numbers and slices, which `imbolaverk_c` hands to C under their names. Each is total on any arguments, and answers 0
+// for done or the number of its refusal. In each module a function `.._number` gives the number of an answer, and `give_..` gives it and
+// writes the answer's values to the lent output.
 
 #![tactic(auto)]
 

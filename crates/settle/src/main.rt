@@ -254,6 +254,7 @@ fn main(rt: HostRuntime) {
             // All is put out, or a write failed and was told: what it left is not tried again.
             let _ = out.into_parts();
         }
-        Err(error) => tell_unwritten(&rt, &error),
+        // With no memory for a buffer each piece is written by itself.
+        Err(_) => answer_all(&rt, &mut rt.stdin(), &mut rt.stdout(), is_echo_asked(&rt)),
     }
 }
