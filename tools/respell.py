@@ -117,4 +117,5 @@ def main():
             open(path, "w", encoding="utf-8").write(new)
 
 
-main()
+if __name__ == "__main__":
+    main()

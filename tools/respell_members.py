@@ -6,9 +6,7 @@ usage: python3 tools/respell_members.py [--table]    at the top of the repositor
 import re
 import sys
 
-sys.argv, arguments = sys.argv[:1] + ["--table"], sys.argv[1:]
-with open("tools/respell.py", encoding="utf-8") as f:
-    exec(f.read().replace("\nmain()\n", "\n"))
+from respell import PLAIN, TEXTS, WORD, camel_to_snake, files, in_clauses, read, turned
 
 # Two that would fall together with definitions get other names.
 OTHER_NAMES = {"clause-of": "clause_of_variable", "trail-length": "length_of_trail"}
@@ -38,7 +36,7 @@ def members():
 
 def members_turned():
     table, kept = members()
-    if arguments == ["--table"]:
+    if sys.argv[1:] == ["--table"]:
         print("\n".join(f"{n}\t{new}" for n, new in table.items()), *(f"kept: {n} (another is named {new})" for n, new in kept.items()), sep="\n")
         return
     for path in files(TEXTS) + files(["crates/*/src/**/*.rt"]) + files(["crates/*/must-fail/*.edit"]):
@@ -53,4 +51,5 @@ def members_turned():
             open(path, "w", encoding="utf-8").write(new)
 
 
-members_turned()
+if __name__ == "__main__":
+    members_turned()
