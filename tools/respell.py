@@ -90,6 +90,26 @@ def in_clauses(table, text):
     return "\n".join(out)
 
 
+def turn(path, by):
+    text = read(path)
+    new = by(text)
+    if new != text:
+        with open(path, "w", encoding="utf-8") as f:
+            f.write(new)
+
+
+def turn_files(antt, others, pages):
+    """Turns every file, by a table for .antt files, one for sources and edits, and one for the code spans of pages."""
+    for path in files(TEXTS):
+        turn(path, lambda text: turned(antt, text))
+    for path in files(["crates/*/src/**/*.rt"]):
+        turn(path, lambda text: in_clauses(others, text))
+    for path in files(["crates/*/must-fail/*.edit"]):
+        turn(path, lambda text: turned(others, text))
+    for path in ["README.md"] + files(["docs/**/*.md", "host/**/*.md"]):
+        turn(path, lambda text: re.sub(r"`[^`\n]+`", lambda m: turned(pages, m.group(0)), text))
+
+
 def main():
     table, kept = made()
     lemmas = MAKE_WAY | table
@@ -99,22 +119,8 @@ def main():
         for name, new in kept.items():
             print(f"kept: {name} (another is named {new})")
         return
-    for path in files(TEXTS):
-        text = read(path)
-        new = turned(lemmas, text)
-        if new != text:
-            open(path, "w", encoding="utf-8").write(new)
-    for path in files(["crates/*/src/**/*.rt"]) + files(["crates/*/must-fail/*.edit"]):
-        text = read(path)
-        new = in_clauses(table, text) if path.endswith(".rt") else turned(table, text)
-        if new != text:
-            open(path, "w", encoding="utf-8").write(new)
-    named = table | {k: v for k, v in MAKE_WAY.items() if "-" in k}
-    for path in ["README.md"] + files(["docs/**/*.md", "host/**/*.md"]):
-        text = read(path)
-        new = re.sub(r"`[^`\n]+`", lambda m: turned(named, m.group(0)), text)
-        if new != text:
-            open(path, "w", encoding="utf-8").write(new)
+    # No source and no clause names a lemma that makes way: such a word is a function's.
+    turn_files(antt=lemmas, others=table, pages=table | {k: v for k, v in MAKE_WAY.items() if "-" in k})
 
 
 if __name__ == "__main__":

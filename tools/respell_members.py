@@ -6,7 +6,7 @@ usage: python3 tools/respell_members.py [--table]    at the top of the repositor
 import re
 import sys
 
-from respell import PLAIN, TEXTS, WORD, camel_to_snake, files, in_clauses, read, turned
+from respell import PLAIN, TEXTS, WORD, camel_to_snake, files, read, turn_files
 
 # Two that would fall together with definitions get other names.
 OTHER_NAMES = {"clause-of": "clause_of_variable", "trail-length": "length_of_trail"}
@@ -39,16 +39,7 @@ def members_turned():
     if sys.argv[1:] == ["--table"]:
         print("\n".join(f"{n}\t{new}" for n, new in table.items()), *(f"kept: {n} (another is named {new})" for n, new in kept.items()), sep="\n")
         return
-    for path in files(TEXTS) + files(["crates/*/src/**/*.rt"]) + files(["crates/*/must-fail/*.edit"]):
-        text = read(path)
-        new = in_clauses(table, text) if path.endswith(".rt") else turned(table, text)
-        if new != text:
-            open(path, "w", encoding="utf-8").write(new)
-    for path in ["README.md"] + files(["docs/**/*.md", "host/**/*.md"]):
-        text = read(path)
-        new = re.sub(r"`[^`\n]+`", lambda m: turned(table, m.group(0)), text)
-        if new != text:
-            open(path, "w", encoding="utf-8").write(new)
+    turn_files(antt=table, others=table, pages=table)
 
 
 if __name__ == "__main__":
