@@ -1,5 +1,5 @@
 #!/usr/bin/env python3
-"""Writes src/areas.rt, src/read.rt, src/write.rt and specs/Layout.antt from the table layout.txt, as rt fmt would leave them.
+"""Writes src/areas.rt and specs/Layout.antt from the table layout.txt, as rt fmt would leave them.
 
     layout.py           writes those that differ
     layout.py --check   writes none: names those that differ, and fails if there is one
@@ -13,7 +13,7 @@ from string import Template
 STORE = Path(__file__).resolve().parent
 WRITTEN = "crates/store/layout.py writes this file from crates/store/layout.txt: a change belongs there."
 
-Area = namedtuple("Area", "name words largest reader writer holds")
+Area = namedtuple("Area", "name words largest holds")
 Region = namedtuple("Region", "name holds areas")
 
 
@@ -98,31 +98,31 @@ def fitted(opening, items, closing):
 # The constants.
 
 AREAS_FILE = Template("""\
-// The areas of the store: where each begins and how many words it has. Code above names an area, never a number.
+// The areas of the store, one behind the other. Code above names an area, never a number.
 // $written
 ghost use Rattle.std.specs.Prelude.{◌≡◌};
-ghost use Rattle.store.specs.Layout.{layout_of, unranged_of};
+ghost use Rattle.store.specs.Layout.{table, unranged_of};
 
+use crate::area::{Area, Range};
 use crate::{codes, limits};
 
 $constants
 
-// Behind the lists of the singles stand those of the unions.
-pub const UNION_STARTS: usize = LIST_STARTS + limits::VERSION_SETS;
-
-pub const UNION_LENGTHS: usize = LIST_LENGTHS + limits::VERSION_SETS;
+$parts
 
 // How many words a store needs.
-$words
+pub const WORDS: usize = $last.base + $last.size;
 
 // How many areas hold numbers that have a range.
 pub const ROWS: usize = $rows;
 
-// A row for each of them: its base, its size and the largest number that a word of it may hold.
-pub fn layout() -> [usize; 3 * ROWS]
-    ensures { result ≡ layout_of }
+// Each of them, with the largest number that a word of it may hold.
+pub fn layout() -> [Range; ROWS]
+    ensures { result ≡ table }
 {
+    [
 $layout
+    ]
 }
 
 // The other areas, and the number of words.
@@ -133,101 +133,37 @@ $unranged
 }
 """)
 
+CONSTANT = Template("""\
+// $holds.
+pub const $name: Area = Area {
+    base: $base,
+    size: $size,
+};""")
 
-def place(name, before):
-    """The constant of the first word behind an area. rt fmt breaks a line of more than 100 columns."""
-    behind = f"{constant(before.name)} + {constant(before.name)}_SIZE" if before else "0"
-    line = f"pub const {name}: usize = {behind};"
-    return line if len(line) <= 100 else line.replace(" + ", "\n    + ")
-
+# The lists of the singles, and behind them those of the unions: as the specs have them.
+PARTS = [
+    ("where the lists of the singles begin", "SINGLE_STARTS", "LIST_STARTS.base", "limits::VERSION_SETS"),
+    ("how long they are", "SINGLE_LENGTHS", "LIST_LENGTHS.base", "limits::VERSION_SETS"),
+    ("where the lists of the unions begin", "UNION_STARTS", "LIST_STARTS.base + limits::VERSION_SETS", "limits::UNION_LISTS"),
+    ("how long they are", "UNION_LENGTHS", "LIST_LENGTHS.base + limits::VERSION_SETS", "limits::UNION_LISTS"),
+]
 
 def areas_file():
     constants = []
     for before, area in zip([None] + AREAS, AREAS):
-        name = constant(area.name)
-        constants.append(f"// {capital(area.holds)}.\n{place(name, before)}")
-        constants.append(f"pub const {name}_SIZE: usize = {value(area.words)};")
-    rows = [item for a in RANGED for item in (constant(a.name), f"{constant(a.name)}_SIZE", value(a.largest))]
-    others = [item for a in UNRANGED for item in (constant(a.name), f"{constant(a.name)}_SIZE")] + ["WORDS"]
+        # The size by its limit, not as the other area's: a constant that names another twice has twice its expressions.
+        base = f"{constant(before.name)}.base + {value(before.words)}" if before else "0"
+        constants.append(CONSTANT.substitute(holds=capital(area.holds), name=constant(area.name), base=base, size=value(area.words)))
+    others = [item for a in UNRANGED for item in (f"{constant(a.name)}.base", f"{constant(a.name)}.size")] + ["WORDS"]
     return AREAS_FILE.substitute(
         written=WRITTEN,
         constants="\n\n".join(constants),
-        words=place("WORDS", AREAS[-1]),
+        parts="\n\n".join(CONSTANT.substitute(holds=capital(holds), name=name, base=base, size=size) for holds, name, base, size in PARTS),
+        last=constant(AREAS[-1].name),
         rows=len(RANGED),
-        layout=fitted("[", rows, "]"),
+        layout="\n".join(f"        {constant(a.name)}.up_to({value(a.largest)})," for a in RANGED),
         others=len(others),
         unranged=fitted("[", others, "]"),
-    )
-
-
-# The readers and the writers.
-
-READERS_FILE = Template("""\
-// Reading a word of each area, by the area's name.
-// $written
-ghost use Rattle.std.specs.Prelude.{◌≡◌, ◌≤◌, ◌<◌, length};
-ghost use Rattle.store.specs.Area.{at};
-ghost use Rattle.store.specs.Layout.{words, $areas};
-
-use crate::{areas, word};
-
-$functions
-""")
-
-READER = Template("""\
-pub fn $function(s: &[u32]$index) -> u32
-    requires { $needs }
-    ensures { result ≡ at $area $i s.now }
-{
-$body
-}""")
-
-WRITERS_FILE = Template("""\
-// Writing a word of each area, by the area's name.
-// $written
-ghost use Rattle.std.specs.Prelude.{◌≡◌, ◌≤◌, ◌<◌, length};
-ghost use Rattle.store.specs.Area.{put};
-ghost use Rattle.store.specs.Layout.{words, $areas};
-
-use crate::{areas, set_word};
-
-$functions
-""")
-
-WRITER = Template("""\
-pub fn $function(s: &mut [u32]$index, x: u32)
-    requires { $needs }
-    ensures { s.new ≡ put $area $i x s.old }
-{
-$body
-}""")
-
-
-def one_function(template, function, area, call, more):
-    given = "s.old" if template is WRITER else "s.now"
-    i, index, needs = "i", ", i: usize", f"(words ≤ length {given}) × (i < {area.name}.size)"
-    if area.words == "1":
-        i, index, needs = "0", "", f"words ≤ length {given}"
-    base = f"areas::{constant(area.name)}"
-    body = fitted(f"{call}(", ["s", base, f"{base}_SIZE", i] + more, ")")
-    return template.substitute(function=function, index=index, needs=needs, area=area.name, i=i, body=body)
-
-
-def readers_file():
-    readable = [area for area in AREAS if area.reader != "-"]
-    return READERS_FILE.substitute(
-        written=WRITTEN,
-        areas=", ".join(area.name for area in readable),
-        functions="\n\n".join(one_function(READER, area.reader, area, "word", []) for area in readable),
-    )
-
-
-def writers_file():
-    writable = [area for area in AREAS if area.writer != "-"]
-    return WRITERS_FILE.substitute(
-        written=WRITTEN,
-        areas=", ".join(area.name for area in writable),
-        functions="\n\n".join(one_function(WRITER, area.writer, area, "set_word", ["x"]) for area in writable),
     )
 
 
@@ -238,7 +174,7 @@ SPECS_FILE = Template("""\
 -- `areas::layout` and `areas::unranged` prove that the source has the same numbers.
 -- $written
 use Rattle.std.specs.Prelude.{ℕ, ◌+◌, ◌-◌, List, [], ◌∷◌}
-use Rattle.store.specs.Area.{Area, Range, ◌upto◌, flat}
+use Rattle.store.specs.Area.{Area, Range, ◌upto◌}
 use Rattle.store.specs.Codes.{$codes}
 use Rattle.store.specs.Limits.{$limits}
 
@@ -290,10 +226,6 @@ table =
 -- the areas whose words may be any u32, but for one number in the map
 abbrev pub unranged_of : List ℕ
 unranged_of = $unranged
-
--- each row's base, size and largest number, as the source has them
-abbrev pub layout_of : List ℕ
-layout_of = flat table
 """)
 
 
@@ -328,8 +260,6 @@ def specs_file():
 
 TEXTS = {
     "src/areas.rt": areas_file(),
-    "src/read.rt": readers_file(),
-    "src/write.rt": writers_file(),
     "specs/Layout.antt": specs_file(),
 }
 

@@ -9,7 +9,8 @@ use Rattle.store.proofs.AreaLaws.{length_put, area_kept, at_kept}
 use Rattle.rules.proofs.Choice.{both, true_of}
 use Rattle.store.proofs.RankLaws.{length_inserted, area-inserted_kept}
 use Rattle.store.proofs.Soundness.{ranged-beside, tabled-same, untied, sound-put}
-use Rattle.store.specs.Area.{Area, area, at, put, Write, apart, clear_of, ◌upto◌}
+use Rattle.store.specs.declared.area.Area.{Area}
+use Rattle.store.specs.Area.{area, at, put, Write, apart, clear_of, ◌upto◌}
 use Rattle.store.specs.Layout.{mirror_length, sync_floor, propagated, trail_length, map, clause_ids, tables_region, table}
 use Rattle.store.specs.Ranks.{moved, inserted}
 use Rattle.store.specs.Shape.{listed, Sound}

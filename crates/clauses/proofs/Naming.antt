@@ -1,30 +1,37 @@
--- Counting distinct names: the two loops, and that a requirement has at most eight. Assumes nothing.
+-- Counting distinct names: the loop, and that a requirement has at most eight. Assumes nothing.
 use mathlib.Core.Bool.{Bool, true, false, cond}
 use mathlib.Core.List.{List}
-use mathlib.Core.Path.{◌≡◌, sym, ap, ◌∙◌}
+use mathlib.Core.Path.{◌≡◌, refl}
 use Prim.Native.Nat.{ℕ, zero, suc, ◌+◌, ◌≤◌}
+use native.Mathlib.Nat.{add-zero, zero-add}
+use lib.ListN.{length}
+use Rattle.std.specs.List.{filter, range_with_len}
 use native.Mathlib.Numerals.{add-one}
 use native.Mathlib.Omega.{arith}
-use borrow.Author.Tests.{eq-eqb, ne_eqb}
-use Rattle.clauses.specs.Names.{other_name, new_name, name_count, new_names, distinct_names}
-use Rattle.requirement.proofs.Loading.{sets-most}
-use Rattle.requirement.specs.Tables.{first_slot, set_count, set_of, name_of}
+use Rattle.clauses.specs.Names.{new_name, name_count, new_names, distinct_names}
+use Rattle.requirement.proofs.Loading.{sets-most, slots-fit}
+use Rattle.requirement.specs.Tables.{first_slot, set_count}
 use Rattle.store.specs.Limits.{union_room}
 use Rattle.store.specs.Shape.{Sound}
 
-module _ (w : List ℕ) (first i j x y : ℕ) (a : x ≡ name_of w (set_of w (first + j))) (b : y ≡ name_of w (set_of w (first + i))) where
-  pub same_name : x ≡ y → other_name w first i j ≡ false
-  unfolding other_name
-  same_name e = rw (eq-eqb _ _ (sym a ∙ e ∙ b))
+-- what the code counts: the lists from k on that have a new name, with those before k
+names_from : (w : List ℕ) (first k n : ℕ) → new_names w first k + length (filter (new_name w first) (range_with_len k n)) ≡ new_names w first (k + n)
+unfolding new_names name_count
+names_from w first k zero = rw (add-zero k) (add-zero (new_names w first k))
+names_from w first k (suc n) =
+    let e : k + suc n ≡ k + 1 + n = omega arith in
+    rw e (go (new_name w first k) refl (names_from w first (k + 1) n))
+  where
+    next : new_names w first (k + 1) ≡ new_names w first k + name_count w first k
+    next = rw (add-one k)
 
-  pub other_name_lem : (x ≡ y → ⊥) → other_name w first i j ≡ true
-  unfolding other_name
-  other_name_lem n = rw (ne_eqb _ _ (λ z. n (a ∙ z ∙ sym b)))
+    go : (b : Bool) → new_name w first k ≡ b → new_names w first (k + 1) + length (filter (new_name w first) (range_with_len (k + 1) n)) ≡ new_names w first (k + 1 + n) → new_names w first k + length (filter (new_name w first) (range_with_len k (suc n))) ≡ new_names w first (k + 1 + n)
+    go true q h = let m = rw q at next in rw q (omega arith)
+    go false q h = let m = rw q at next in rw q (omega arith)
 
--- one more list
-pub name-counts : (w : List ℕ) (first i count n : ℕ) → count ≡ new_names w first i → n ≡ name_count w first i → count + n ≡ new_names w first (i + 1)
+pub names_counted : (w : List ℕ) (first n : ℕ) → length (filter (new_name w first) (range_with_len 0 n)) ≡ new_names w first n
 unfolding new_names
-name-counts w first i count n so e = rw (add-one i, so, e)
+names_counted w first n = let h = rw (zero-add n) at (names_from w first 0 n) in omega (arith, h)
 
 one_name : (w : List ℕ) (first i : ℕ) → name_count w first i ≤ 1
 unfolding name_count
@@ -44,8 +51,4 @@ pub names-few : (w : List ℕ) (key : ℕ) → Sound w → distinct_names w key 
 unfolding distinct_names
 names-few w key h = omega (arith, new-names-few w (first_slot key) (set_count w key), sets-most w key h.ranges)
 
-pub names-done : (w : List ℕ) (first i n count : ℕ) → count ≡ new_names w first i → i ≡ n → count ≡ new_names w first n
-names-done w first i n count so e = so ∙ ap (λ m. new_names w first m) e
-
-pub count_small : (w : List ℕ) (first i count n : ℕ) → count ≡ new_names w first i → n ≡ name_count w first i → count + n ≤ i + 1
-count_small w first i count n so e = omega (arith, new-names-few w first i, one_name w first i)
+pub ruleset by_slots = (slots-fit)

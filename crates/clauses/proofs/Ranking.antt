@@ -39,3 +39,5 @@ module _ (f : ℕ → ℕ) (p n : ℕ) where
 -- a rank is a place among the clauses, or behind them
 pub rank_most : (w : List ℕ) (parent : ℕ) → rank_of w parent ≤ at clause_count 0 w
 rank_most w parent = behind-most (parent_at w) parent (at clause_count 0 w) (at clause_count 0 w) (omega arith)
+
+pub ruleset by_behind = (behind_hit, behind_more, behind-none)

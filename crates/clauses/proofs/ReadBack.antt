@@ -13,7 +13,8 @@ use Rattle.clauses.specs.Register.{condition_word, Placed, queued_mark, clause_o
 use Rattle.store.proofs.AreaLaws.{area-puts, at-written}
 use Rattle.rules.proofs.Choice.{both, true_of, eq_or, lt_or}
 use Rattle.store.proofs.RankLaws.{length_inserted, area-inserted_kept, at-inserted-before, at-inserted, at-inserted-behind}
-use Rattle.store.specs.Area.{Area, area, at, Write, write, Fits, apart, clear_of}
+use Rattle.store.specs.declared.area.Area.{Area}
+use Rattle.store.specs.Area.{area, at, Write, write, Fits, apart, clear_of}
 use Rattle.store.specs.Layout.{queued, clause_count, clause_parents, clause_requirements, clause_conditions, clause_ids, words}
 use Rattle.store.specs.Ranks.{inserted}
 use Rattle.store.specs.Shape.{Sound}

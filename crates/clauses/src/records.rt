@@ -8,9 +8,10 @@ ghost use Rattle.rules.specs.Store.{rank};
 
 use crate::Clause;
 use requirement::Requirement;
-use store::{limits, read};
+use store::{areas, limits};
 
-// The requirement of a key: a single's version set, or 256 more than a union.
+// The requirement of a key: a single's version set, or 256 more than a union. It stands here and not beside `Requirement::key`, since keys are
+// read back from clause records alone: `of_key` is their definition.
 fn of_key(key: u32) -> Requirement
     ensures { result ≡ of_key key }
 {
@@ -21,30 +22,32 @@ fn of_key(key: u32) -> Requirement
 }
 
 // The record of clause k, with its requirement inside it: at its rank, what registering has put there (`clause-here`).
+#[tactic(auto, unfolding(crate::specs::Record::clause_at))]
 pub fn clause_at(s: &[u32], k: usize) -> Clause
-    requires { (Sound s.now) × (k < clauses) }
+    requires sound { Sound s.now }
+    requires known { k < clauses }
     ensures { result ≡ clause_at s.now k }
 {
-    let requirement = of_key(read::requirement(s, k));
+    let requirement = of_key(areas::CLAUSE_REQUIREMENTS.at(s, k));
     Clause {
-        parent: read::parent(s, k),
+        parent: areas::CLAUSE_PARENTS.at(s, k),
         requirement,
-        condition: read::condition(s, k),
-        id: read::clause_id(s, k),
+        condition: areas::CLAUSE_CONDITIONS.at(s, k),
+        id: areas::CLAUSE_IDS.at(s, k),
     }
 }
 
 // The rank of a new clause among n: behind the last clause of its parent, or behind all.
+#[tactic(auto, using(crate::proofs::Ranking::by_behind))]
 pub fn rank_of(s: &[u32], parent: u32, n: usize) -> usize
-    requires { (words ≤ length s.now) × (n ≤ clauses) }
+    requires long { words ≤ length s.now }
+    requires few { n ≤ clauses }
     ensures { result ≡ rank (parent_at s.now) parent n }
 {
-    let mut k = n;
-    while 0 < k {
-        if read::parent(s, k - 1) == parent {
-            return k;
+    for k in (0..n).rev() {
+        if areas::CLAUSE_PARENTS.at(s, k) == parent {
+            return k + 1;
         }
-        k -= 1;
     }
     n
 }

@@ -2,15 +2,16 @@
 use mathlib.Core.Bool.{Bool, true, false, ◌&&◌, ◌||◌}
 use mathlib.Core.List.{List}
 use mathlib.Core.Path.{◌≡◌, sym, ap, ◌∙◌}
-use Prim.Native.Nat.{ℕ, ◌+◌, ◌-◌, ◌≤◌, ◌<◌}
+use Prim.Native.Nat.{ℕ, ◌+◌, ◌-◌, ◌≤◌, ◌<◌, min}
 use native.Mathlib.Nat.{zero-add}
 use native.Mathlib.Numerals.{add-one}
 use native.Mathlib.Omega.{arith}
-use borrow.Author.Tests.{leb-true, eqb-true, le-leb, lt-leb}
+use borrow.Author.Tests.{leb-true, eqb-true}
 use lib.Dec.{leb, eqb}
 use lib.ListN.{length, get_or, take, drop, drop_of_length-le}
 use lib.Seq.{drop-cons}
-use Rattle.conditions.specs.Disjunct.{last_kind, conjunct, sane, sane_at, holds_at, sane_all}
+use Rattle.conditions.specs.Disjunct.{last_kind, conjunct, holds_at, sane, sane_at, sane_all}
+use Rattle.trail.specs.Assignment.{assigned_true}
 use Rattle.conditions.specs.Truth.{some}
 use Rattle.rules.proofs.Choice.{both}
 use Rattle.store.proofs.Counting.{every-at}
@@ -18,7 +19,6 @@ use Rattle.rules.proofs.Loops.{all-at}
 use Rattle.store.specs.Limits.{last_variable}
 use Rattle.rules.specs.Numbers.{all_from}
 use Rattle.store.specs.Shape.{every, up_to}
-use Rattle.trail.specs.Assignment.{assigned_true}
 
 -- looking for an element that passes: what is left of the search is the whole search
 module _ (p : ℕ → Bool) (l : List ℕ) (i : ℕ) (so : some p l ≡ some p (drop i l)) where
@@ -36,66 +36,49 @@ module _ (p : ℕ → Bool) (l : List ℕ) (i : ℕ) (so : some p l ≡ some p (
   unfolding some
   some_ends h = sym (so ∙ rw (drop_of_length-le l {i = i} h))
 
-pub variable-at : (l : List ℕ) (i : ℕ) → every (up_to last_variable) l ≡ true → i < length l → get_or l i 0 ≤ last_variable
-variable-at l i e h = leb-true (get_or l i 0) last_variable (every-at (up_to last_variable) l e i h)
+pub variable_at : (l : List ℕ) (i : ℕ) → every (up_to last_variable) l ≡ true → i < length l → get_or l i 0 ≤ last_variable
+variable_at l i e h = leb-true (get_or l i 0) last_variable (every-at (up_to last_variable) l e i h)
 
--- the cells between two places are the conjunct's
-part-is : (cells : List ℕ) (start n a b : ℕ) → a ≡ start → b ≡ n → take (a + b - a) (drop a cells) ≡ conjunct cells start n
-part-is cells start n a b e f =
-    let z : a + b - a ≡ b = omega arith in
-    rw (z, e, f)
+pub ruleset seeking = (some_hit, some_more, some_ends, variable_at)
 
--- a conjunct's grounds of 2
-module _ (cells : List ℕ) (kind start n a b : ℕ) (known : kind ≤ last_kind) (e : a ≡ start) (f : b ≡ n) where
-  pub sane-past : length cells < a + b → false ≡ sane cells kind start n
-  unfolding sane
-  sane-past h = rw (← e, ← f, le-leb kind last_kind known, lt-leb (a + b) (length cells) h)
+-- sane lists are of one length
+module _ (kinds starts lengths cells : List ℕ) (s : sane_all kinds starts lengths cells ≡ true) where
+  sane_parts : ((length starts ≡ length kinds) × (length lengths ≡ length kinds)) × (all_from (sane_at kinds starts lengths cells) 0 (length kinds) ≡ true)
+  unfolding sane_all
+  sane_parts =
+      let t1 = eqb (length starts) (length kinds) in
+      let t2 = eqb (length lengths) (length kinds) in
+      let a = both (t1 && t2) (all_from (sane_at kinds starts lengths cells) 0 (length kinds)) s in
+      let b = both t1 t2 a.0 in
+      ((eqb-true _ _ b.0, eqb-true _ _ b.1), a.1)
 
-  pub sane-inside : (r : Bool) → a + b ≤ length cells → r ≡ every (up_to last_variable) (take (a + b - a) (drop a cells)) → r ≡ sane cells kind start n
-  unfolding sane
-  sane-inside r h q =
-      let z : a + b - a ≡ b = omega arith in
-      rw (← e, ← f, le-leb kind last_kind known, le-leb (a + b) (length cells) h) (q ∙ rw z)
+  pub paired_to : (n : ℕ) → n ≡ min (length starts) (length lengths) → length kinds ≤ n
+  paired_to n e = rw (e, sane_parts.0.0, sane_parts.0.1) (omega arith)
 
-pub sane-at : (kinds starts lengths cells : List ℕ) (j : ℕ) (r t : Bool) → r ≡ sane cells (get_or kinds j 0) (get_or starts j 0) (get_or lengths j 0) → r ≡ t → sane_at kinds starts lengths cells j ≡ t
-unfolding sane_at
-sane-at kinds starts lengths cells j r t e f = sym e ∙ f
+  -- conjunct j, as a loop over the starts and the lengths has it: its range is a and b
+  module _ (j a b : ℕ) (h : j < length starts) (e : a ≡ get_or starts j 0) (f : b ≡ get_or lengths j 0) where
+    pub paired : j < length kinds
+    paired = omega (arith, sane_parts.0.0, h)
 
--- what sane lists say of each conjunct
-pub record Conjunct (starts lengths cells : List ℕ) (j : ℕ) : Type 0 where
-  pub started : j < length starts
-  pub counted : j < length lengths
-  pub inside : get_or starts j 0 + get_or lengths j 0 ≤ length cells
-  pub named : every (up_to last_variable) (conjunct cells (get_or starts j 0) (get_or lengths j 0)) ≡ true
+    part-is : take (a + b - a) (drop a cells) ≡ conjunct cells (get_or starts j 0) (get_or lengths j 0)
+    part-is =
+        let z : a + b - a ≡ b = omega arith in
+        rw (z, e, f)
 
-pub conjunct-at : (kinds starts lengths cells : List ℕ) (j : ℕ) → sane_all kinds starts lengths cells ≡ true → j < length kinds → Conjunct starts lengths cells j
-unfolding sane_all sane_at sane
-conjunct-at kinds starts lengths cells j e h =
-    let n = length kinds in
-    let t1 = eqb (length starts) n in
-    let t2 = eqb (length lengths) n in
-    let a = both (t1 && t2) (all_from (sane_at kinds starts lengths cells) 0 n) e in
-    let b = both t1 t2 a.0 in
-    let s = rw zero-add at (all-at (sane_at kinds starts lengths cells) 0 n j a.1 h) in
-    let k1 = leb (get_or kinds j 0) last_kind in
-    let k2 = leb (get_or starts j 0 + get_or lengths j 0) (length cells) in
-    let d = both (k1 && k2) (every (up_to last_variable) (conjunct cells (get_or starts j 0) (get_or lengths j 0))) s in
-    let f = both k1 k2 d.0 in
-    record {
-      started = omega (arith, eqb-true (length starts) n b.0);
-      counted = omega (arith, eqb-true (length lengths) n b.1);
-      inside = leb-true _ _ f.1;
-      named = d.1;
-    }
+    sane-parts : (get_or starts j 0 + get_or lengths j 0 ≤ length cells) × (every (up_to last_variable) (conjunct cells (get_or starts j 0) (get_or lengths j 0)) ≡ true)
+    unfolding sane_at sane
+    sane-parts =
+        let k1 = leb (get_or kinds j 0) last_kind in
+        let k2 = leb (get_or starts j 0 + get_or lengths j 0) (length cells) in
+        let d = both (k1 && k2) (every (up_to last_variable) (conjunct cells (get_or starts j 0) (get_or lengths j 0))) (rw zero-add at (all-at (sane_at kinds starts lengths cells) 0 (length kinds) j sane_parts.1 paired)) in
+        (leb-true _ _ (both k1 k2 d.0).1, d.1)
 
--- a conjunct's cells, as the code lends them
-module _ {starts lengths cells : List ℕ} {j a b : ℕ} (here : Conjunct starts lengths cells j) (e : a ≡ get_or starts j 0) (f : b ≡ get_or lengths j 0) where
-  lent_is : take (a + b - a) (drop a cells) ≡ conjunct cells (get_or starts j 0) (get_or lengths j 0)
-  lent_is = part-is cells (get_or starts j 0) (get_or lengths j 0) a b e f
+    pub part_inside : a + b ≤ length cells
+    part_inside = omega (arith, e, f, sane-parts.0)
 
-  pub part-named : every (up_to last_variable) (take (a + b - a) (drop a cells)) ≡ true
-  part-named = ap (every (up_to last_variable)) lent_is ∙ here.named
+    pub part_named : every (up_to last_variable) (take (a + b - a) (drop a cells)) ≡ true
+    part_named = ap (every (up_to last_variable)) part-is ∙ sane-parts.1
 
-  pub part-holds : (w : List ℕ) (r t : Bool) → r ≡ some (assigned_true w) (take (a + b - a) (drop a cells)) → r ≡ t → holds_at w starts lengths cells j ≡ t
-  unfolding holds_at
-  part-holds w r t q z = ap (some (assigned_true w)) (sym lent_is) ∙ sym q ∙ z
+    pub part_holds : (w : List ℕ) → some (assigned_true w) (take (a + b - a) (drop a cells)) ≡ holds_at w starts lengths cells j
+    unfolding holds_at
+    part_holds w = ap (some (assigned_true w)) part-is

@@ -1,10 +1,8 @@
 pub mod Candidates
 pub mod Cases
-pub mod Deciding
 pub mod Finding
 pub mod Holding
 pub mod Measuring
-pub mod Tallying
 pub mod Terms
 pub mod Whole
 pub mod Writing

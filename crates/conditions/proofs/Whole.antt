@@ -1,16 +1,18 @@
 -- Term by term and as a whole: what the loops find and write after all terms is what the definition says of the list of terms. Assumes nothing.
-use mathlib.Core.Bool.{Bool, ◌&&◌}
+use mathlib.Core.Bool.{Bool, true, false, ◌&&◌}
 use mathlib.Core.List.{List, [], ◌∷◌, ◌++◌, append_assoc, append-nil}
 use mathlib.Core.Path.{◌≡◌, refl, sym, ap, ◌∙◌}
 use Prim.Native.Nat.{ℕ, zero, suc, ◌+◌, ◌≤◌, ◌<◌}
 use native.Mathlib.Nat.{zero-add, add-zero, le_of_eq}
 use native.Mathlib.Omega.{arith}
+use borrow.Author.Tests.{le-ltb}
 use lib.Dec.{leb}
 use lib.ListN.{length, get_or, take, set, length-append}
 use lib.Seq.{take-suc, length-take-le, sets, take-length}
 use Rattle.store.proofs.LentLaws.{length_lengths, sets_over}
 use Rattle.store.specs.Lent.{lengths_of, joined, over}
-use Rattle.store.specs.Limits.{most_sets}
+use Rattle.store.specs.Limits.{most_terms, most_sets}
+use Rattle.conditions.specs.Rewrite.{too_much}
 use Rattle.conditions.proofs.Writing.{sets_append}
 use Rattle.conditions.specs.Dnf.{linked, term_of}
 use Rattle.conditions.specs.Steps.{short_at, cells_to, lengths_left, cells_left}
@@ -73,9 +75,9 @@ module _ (w : List ℕ) (c : ℕ) where
     all_first : take n (linked w c) ≡ linked w c
     all_first = rw (all, take-length (linked w c))
 
-    pub short-whole : all_from (short_at w c) 0 n ≡ every (up_to most_sets) (lengths_of (linked w c))
+    pub short_whole : all_from (short_at w c) 0 n ≡ every (up_to most_sets) (lengths_of (linked w c))
     unfolding short_at term_of
-    short-whole = rw all (short-from (linked w c) (short_at w c) 0 (λ j h. rw zero-add))
+    short_whole = rw all (short-from (linked w c) (short_at w c) 0 (λ j h. rw zero-add))
 
     pub cells_whole : cells_to w c n ≡ length (joined (linked w c))
     cells_whole = cells_of n (le_of_eq all) ∙ rw all_first
@@ -84,5 +86,14 @@ module _ (w : List ℕ) (c : ℕ) where
     pub lengths_written : (l : List ℕ) → n ≤ length l → lengths_left w c l n ≡ over (lengths_of (linked w c)) l
     lengths_written l h = lengths-first l n (le_of_eq all) ∙ rw all_first (sets_over (lengths_of (linked w c)) l (omega (arith, length_lengths (linked w c))))
 
-    pub terms-written : (l : List ℕ) → cells_to w c n ≤ length l → cells_left w c l n ≡ over (joined (linked w c)) l
-    terms-written l h = cells-first l n (le_of_eq all) ∙ rw all_first (sets_over (joined (linked w c)) l (omega (arith, cells_whole)))
+    pub terms_written : (l : List ℕ) → cells_to w c n ≤ length l → cells_left w c l n ≡ over (joined (linked w c)) l
+    terms_written l h = cells-first l n (le_of_eq all) ∙ rw all_first (sets_over (joined (linked w c)) l (omega (arith, cells_whole)))
+
+    -- all terms fit
+    pub fits : (rooms room m : ℕ) → n ≤ most_terms → all_from (short_at w c) 0 n ≡ true → m ≡ cells_to w c n → n ≤ rooms → m ≤ room → too_much (linked w c) rooms room ≡ false
+    unfolding too_much
+    fits rooms room m few short sum long roomy =
+        let total = sum ∙ cells_whole in
+        rw (← all, ← total, ← short_whole, short, le-ltb most_terms n few, le-ltb rooms n long, le-ltb room m roomy)
+
+pub ruleset whole = (short_whole, cells_whole, fits, lengths_written, terms_written)

@@ -7,40 +7,34 @@ ghost use Rattle.conditions.specs.Rewrite.{rewrite_lengths, rewrite_cells, rewri
 ghost use Rattle.conditions.specs.Disjunct.{disjunct_row};
 ghost use Rattle.store.specs.Row.{answer_any};
 
-use store::{refusals, shape};
+use crate::disjunct::Disjunct;
+use store::{Refusal, shape};
 
 pub mod disjunct;
 pub mod dnf;
+mod tree;
 
-// Where a term under a link comes from: a leaf's version set, a term under another link, or one followed by another.
-#[derive(Clone, Copy)]
-pub enum Way {
-    Leaf(u32),
-    One(usize, usize),
-    Two(usize, usize, usize, usize),
-}
-
-#[derive(Clone, Copy)]
-pub enum Rewritten {
-    Terms { terms: u32, cells: u32 },
-    Refused(u32),
-}
-
-#[derive(Clone, Copy)]
-pub enum Holds {
-    Yes,
-    No,
-    Refused(u32),
+// What a condition is rewritten to: how many terms, and how many version sets they have together.
+#[derive(Clone, Copy, PartialEq, Eq)]
+pub struct Rewritten {
+    pub terms: u32,
+    pub cells: u32,
 }
 
 // Rewrites the condition of a node: the lengths of its terms, and the terms one after the other.
-pub fn rewrite(s: &[u32], node: u32, lengths: &mut [u32], cells: &mut [u32]) -> Rewritten
-    ensures { (result ≡ answer_any s.now (rewrite_row s.now node (length lengths.old) (length cells.old))) × (lengths.new ≡ rewrite_lengths s.now node lengths.old cells.old) × (cells.new ≡ rewrite_cells s.now node lengths.old cells.old) }
+#[tactic(auto, unfolding(crate::specs::Rewrite::rewrite_sound_lengths, crate::specs::Rewrite::rewrite_sound_cells))]
+pub fn rewrite(
+    s: &[u32],
+    node: u32,
+    lengths: &mut [u32],
+    cells: &mut [u32],
+) -> Result<Rewritten, Refusal>
+    ensures answer { result ≡ answer_any s.now (rewrite_row s.now node (length lengths.old) (length cells.old)) }
+    ensures lengths_left { lengths.new ≡ rewrite_lengths s.now node lengths.old cells.old }
+    ensures cells_left { cells.new ≡ rewrite_cells s.now node lengths.old cells.old }
 {
-    if shape::sound(s) {
-        return dnf::rewrite(s, node, lengths, cells);
-    }
-    Rewritten::Refused(refusals::BAD_STORE)
+    shape::check(s)?;
+    dnf::rewrite(s, node, lengths, cells)
 }
 
 // Whether each conjunct, a kind over a range of the cells, has a candidate assigned true.
@@ -50,11 +44,15 @@ pub fn disjunct_holds(
     starts: &[u32],
     lengths: &[u32],
     cells: &[u32],
-) -> Holds
+) -> Result<bool, Refusal>
     ensures { result ≡ answer_any s.now (disjunct_row s.now kinds.now starts.now lengths.now cells.now) }
 {
-    if shape::sound(s) {
-        return disjunct::disjunct_holds(s, kinds, starts, lengths, cells);
-    }
-    Holds::Refused(refusals::BAD_STORE)
+    shape::check(s)?;
+    let disjunct = Disjunct {
+        kinds,
+        starts,
+        lengths,
+        cells,
+    };
+    disjunct.holds(s)
 }

@@ -1,4 +1,5 @@
 -- Writing a cache: what it says then, and what every other cache and area still says. Assumes nothing.
+use Rattle.std.specs.Prelude.{Some, None}
 use mathlib.Core.Bool.{Bool, true, false, cond, false≢true}
 use mathlib.Core.List.{List, [], ◌∷◌}
 use mathlib.Core.Logic.{◌⊎◌, inl, inr, ⊎_elim, ◌≢◌}
@@ -12,11 +13,11 @@ use Rattle.meaning.specs.Standing.{cache_by, cache_of}
 use Rattle.examine.specs.Cache.{cache_writes, cached}
 use Rattle.store.proofs.AreaLaws.{area-puts, at_kept, at-put_else, at-written, clear_outside, length_puts}
 use Rattle.store.proofs.Soundness.{sound-put}
-use Rattle.store.specs.Area.{Area, Inside, Write, apart, area, at, put, puts, write}
+use Rattle.store.specs.declared.area.Area.{Area}
+use Rattle.store.specs.Area.{Inside, Write, apart, area, at, put, puts, write}
 use Rattle.store.specs.Layout.{cache_candidates, cache_counts, cache_names, cache_states, words}
 use Rattle.store.specs.Limits.{cell_room, last_name, last_variable, requirements}
 use Rattle.store.specs.Shape.{Sound}
-use Rattle.rules.specs.declared.Cache.TheVariants.{Dirty, Known}
 use Rattle.rules.specs.declared.State.TheVariants.{Satisfied, Frontier}
 use Rattle.rules.specs.declared.State.TheVariants as state
 
@@ -100,15 +101,15 @@ module _ (w : List ℕ) (key state x n m : ℕ) (h : key < requirements) where
       (sound-put cache_states 2 key state w tt tt h a s)))
 
 -- "the dead requirement's cache stays dirty": no words say that it is dead
-never_dead : (kind x n m : ℕ) → cache_by kind x n m ≡ Known state.Dead → ⊥
+never_dead : (kind x n m : ℕ) → cache_by kind x n m ≡ Some state.Dead → ⊥
 unfolding cache_by
 never_dead kind x n m = go (eqb kind 0) (eqb kind 1)
   where
-    go : (a b : Bool) → cond a Dirty (cond b (Known (Satisfied x)) (Known (Frontier x n m))) ≡ Known state.Dead → ⊥
+    go : (a b : Bool) → cond a None (cond b (Some (Satisfied x)) (Some (Frontier x n m))) ≡ Some state.Dead → ⊥
     go true b q = false≢true (cc)
     go false true q = false≢true (cc)
     go false false q = false≢true (cc)
 
-pub never_known-dead : (w : List ℕ) (key : ℕ) → cache_of w key ≡ Known state.Dead → ⊥
+pub never_known-dead : (w : List ℕ) (key : ℕ) → cache_of w key ≡ Some state.Dead → ⊥
 unfolding cache_of
 never_known-dead w key q = never_dead (at cache_states key w) (at cache_candidates key w) (at cache_names key w) (at cache_counts key w) q

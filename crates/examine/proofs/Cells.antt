@@ -1,74 +1,58 @@
--- Loops over the cells of a list: a search that leaves at the first hit, and a count. Assumes nothing.
-use mathlib.Core.Bool.{Bool, true, false}
+-- The cells of a list, and what the library's searches say of them. Assumes nothing.
+use Rattle.meaning.proofs.Reading.{span_of}
+use Rattle.std.specs.Prelude.{Some}
+use Rattle.std.specs.List.{All, find, count_by}
+use Rattle.std.proofs.lemmas.List.{get_or_default}
+use Rattle.std.proofs.lemmas.List.Recursion.{is_count_by}
+use mathlib.Core.Bool.{Bool, true, false, cond}
 use mathlib.Core.List.{List, [], ◌∷◌}
-use mathlib.Core.Path.{◌≡◌, sym, ◌∙◌}
-use Prim.Native.Nat.{ℕ, suc, ◌+◌, ◌≤◌, ◌<◌}
-use native.Mathlib.Numerals.{add-one}
+use mathlib.Core.Path.{◌≡◌, refl, ap, sym}
+use Prim.Native.Nat.{ℕ, suc, ◌+◌, ◌-◌, ◌<◌}
 use native.Mathlib.Omega.{arith}
-use lib.ListN.{length, drop, length-take, length-drop, drop_of_length-le}
-use lib.Seq.{drop-cons, get_or-take, get_or-drop}
-use Rattle.meaning.specs.View.{run}
-use Rattle.rules.specs.Walk.{is_undecided, first_that, count_undecided}
-use Rattle.store.proofs.AreaLaws.{length_area}
-use Rattle.store.specs.Area.{area, at}
-use Rattle.store.specs.Layout.{candidates}
-use Rattle.store.specs.Limits.{cell_room}
-use Rattle.store.specs.Shape.{Sound}
+use lib.ListN.{take, drop, length-take}
+use lib.Seq.{get_or-take, get_or-drop}
+use Rattle.requirement.specs.Tables.{cells_of}
+use Rattle.rules.specs.Walk.{first_that, count_undecided, is_undecided}
 use Rattle.rules.specs.declared.Value.{Value}
-use Rattle.rules.specs.declared.Found.TheVariants.{At, Nowhere}
-use Rattle.trail.specs.Assignment.{assigned}
+use Rattle.store.specs.Area.{area, at}
+use Rattle.store.specs.Layout.{candidates, list_starts, list_lengths}
+use Rattle.store.specs.Limits.{last_variable, variables}
+use Rattle.store.specs.Shape.{Sound}
 
--- a variable is undecided
-abbrev pub undecided_in : List ℕ → ℕ → Bool
-undecided_in w v = is_undecided (assigned w v)
+-- each cell names a variable
+cells_named : (w : List ℕ) (slot : ℕ) → Sound w → All (λ x. x < variables) (cells_of w slot)
+unfolding cells_of at
+cells_named w slot h = λ k d l.
+    let few : k < at list_lengths slot w = omega (arith, length-take (at list_lengths slot w) (drop (at list_starts slot w) (area candidates w))) in
+    let most = h.ranges candidates last_variable tt (at list_starts slot w + k) in
+    rw (
+      get_or_default (take (at list_lengths slot w) (drop (at list_starts slot w) (area candidates w))) k d 0 l,
+      get_or-take (at list_lengths slot w) (drop (at list_starts slot w) (area candidates w)) k 0 few,
+      get_or-drop (at list_starts slot w) (area candidates w) k 0,
+    )
+    (omega (arith, most))
 
-module _ (w : List ℕ) (place n : ℕ) (h : Sound w) (span : place + n ≤ cell_room) where
-  length_run : length (run w place n) ≡ n
-  unfolding run
-  length_run = simp (length-take, length-drop, length_area candidates w (omega (arith, h.long))) (omega arith)
+-- of the part of the cells that a list is
+pub part_named : (w : List ℕ) (slot : ℕ) → Sound w → (start n : ℕ) (cells : List ℕ) → start ≡ at list_starts slot w → n ≡ at list_lengths slot w → cells ≡ area candidates w → All (λ x. x < variables) (take (start + n - start) (drop start cells))
+unfolding cells_of
+part_named w slot h start n cells p q e =
+    let z : start + n - start ≡ n = omega arith in
+    rw (z, p, q, e) (cells_named w slot h)
 
-  -- the cell at a turn, and those behind it
-  run-next : (i : ℕ) → i < n → drop i (run w place n) ≡ at candidates (place + i) w ∷ drop (i + 1) (run w place n)
-  unfolding run at
-  run-next i k =
-      drop-cons (run w place n) i 0 (omega (arith, length_run))
-      ∙ rw (get_or-take n (drop place (area candidates w)) i 0 k, get_or-drop place (area candidates w) i 0, add-one i)
+-- the first that passes
+pub found_is : (p : ℕ → Bool) (xs : List ℕ) → find p xs ≡ first_that p xs
+unfolding first_that
+found_is p [] = refl
+found_is p (x ∷ xs) = ap (cond (p x) (Some x)) (found_is p xs)
 
-  run-done : (i : ℕ) → n ≤ i → drop i (run w place n) ≡ []
-  run-done i k = drop_of_length-le (run w place n) {i = i} (omega (arith, length_run))
+-- how many are undecided
+pub counted_is : (a : ℕ → Value) (xs : List ℕ) → count_by (λ v. is_undecided (a v)) xs ≡ count_undecided a xs
+unfolding count_undecided
+counted_is a xs = sym (is_count_by (count_undecided a) (λ v. is_undecided (a v)) refl (λ x ys. go (is_undecided (a x)) (count_undecided a ys)) xs)
+  where
+    go : (b : Bool) (n : ℕ) → cond b (suc n) n ≡ cond b (1 + n) n
+    go true n = omega arith
+    go false n = refl
 
-  -- the search
-  module _ (p : ℕ → Bool) (i : ℕ) (so : first_that p (run w place n) ≡ first_that p (drop i (run w place n))) where
-    module _ (x : ℕ) (is : x ≡ at candidates (place + i) w) (k : i < n) where
-      pub search_hit : p x ≡ true → At x ≡ first_that p (run w place n)
-      unfolding first_that
-      search_hit t = sym (so ∙ rw (run-next i k, ← is, t))
-
-      pub search_next : p x ≡ false → first_that p (run w place n) ≡ first_that p (drop (i + 1) (run w place n))
-      unfolding first_that
-      search_next t = so ∙ rw (run-next i k, ← is, t)
-
-    pub search_none : n ≤ i → Nowhere ≡ first_that p (run w place n)
-    unfolding first_that
-    search_none k = sym (so ∙ rw (run-done i k))
-
-  -- the count
-  module _ (a : ℕ → Value) (i count : ℕ) (so : count_undecided a (run w place n) ≡ count + count_undecided a (drop i (run w place n))) where
-    module _ (x next : ℕ) (is : x ≡ at candidates (place + i) w) (k : i < n) where
-      pub count_more : is_undecided (a x) ≡ true → next ≡ count + 1 → count_undecided a (run w place n) ≡ next + count_undecided a (drop (i + 1) (run w place n))
-      unfolding count_undecided
-      count_more t e =
-          let z : count_undecided a (drop i (run w place n)) ≡ suc (count_undecided a (drop (i + 1) (run w place n))) = rw (run-next i k, ← is, t) in
-          omega arith
-
-      pub count_same : is_undecided (a x) ≡ false → next ≡ count → count_undecided a (run w place n) ≡ next + count_undecided a (drop (i + 1) (run w place n))
-      unfolding count_undecided
-      count_same t e =
-          let z : count_undecided a (drop i (run w place n)) ≡ count_undecided a (drop (i + 1) (run w place n)) = rw (run-next i k, ← is, t) in
-          omega arith
-
-    pub count-done : n ≤ i → count ≡ count_undecided a (run w place n)
-    unfolding count_undecided
-    count-done k =
-        let z : count_undecided a (drop i (run w place n)) ≡ 0 = rw (run-done i k) in
-        omega arith
+-- for the part of the cells that a list is
+pub ruleset part = (span_of, part_named)

@@ -1,4 +1,5 @@
--- What an examination keeps in a cache and finds; the clause record that it reads; what it leaves of the queue. Assumes nothing.
+-- What an examination keeps in a cache and finds, and the clause record that it reads. Assumes nothing.
+use Rattle.std.specs.Prelude.{Some, None}
 use mathlib.Core.Bool.{true, false, ◌&&◌}
 use mathlib.Core.List.{List}
 use mathlib.Core.Path.{◌≡◌, ap, sym, ◌∙◌}
@@ -6,7 +7,7 @@ use Prim.Native.Nat.{ℕ, ◌≤◌, ◌<◌}
 use Rattle.meaning.proofs.Records.{clause-word, condition-most, parent-variable}
 use Rattle.meaning.specs.Standing.{env_of, cache_of}
 use Rattle.meaning.specs.View.{lists_at, literals_at}
-use Rattle.examine.specs.Cache.{cached, dropped, examined, filled, clause_key, finding_at, saved}
+use Rattle.examine.specs.Cache.{filled, clause_key, finding_at, saved}
 use Rattle.rules.specs.Queue.{examine, state_in}
 use Rattle.clauses.proofs.Kept.{key_back}
 use Rattle.clauses.specs.Record.{clause_at}
@@ -17,28 +18,10 @@ use Rattle.store.specs.Area.{at}
 use Rattle.store.specs.Layout.{clause_conditions, clause_count, clause_parents, clause_requirements}
 use Rattle.store.specs.Limits.{disjunctions, variables}
 use Rattle.store.specs.Shape.{Sound}
-use Rattle.rules.specs.declared.Cache.TheVariants.{Dirty, Known}
 use Rattle.rules.specs.declared.State.{State}
-use Rattle.rules.specs.declared.State.TheVariants.{Satisfied, Frontier}
 use Rattle.trail.specs.Assignment.{assigned, assigned_true}
 use Rattle.rules.specs.declared.Finding.{Finding}
-use Rattle.rules.specs.declared.Finding.TheVariants.{Shut, Open}
-use Rattle.rules.specs.declared.State.TheVariants as state
-use Rattle.rules.specs.declared.Finding.TheVariants as finding
-
--- what is kept of a state
-module _ (w : List ℕ) (key : ℕ) (t : State) where
-  pub saved-satisfied : (x : ℕ) → t ≡ Satisfied x → cached w key 1 x 0 0 ≡ saved w key t
-  unfolding saved
-  saved-satisfied x e = rw e
-
-  pub saved-frontier : (x n m : ℕ) → t ≡ Frontier x n m → cached w key 2 x n m ≡ saved w key t
-  unfolding saved
-  saved-frontier x n m e = rw e
-
-  pub saved-dead : t ≡ state.Dead → w ≡ saved w key t
-  unfolding saved
-  saved-dead e = rw e
+use Rattle.rules.specs.declared.Finding.TheVariants.{Shut}
 
 -- an examination
 module _ (w : List ℕ) (k : ℕ) where
@@ -50,16 +33,16 @@ module _ (w : List ℕ) (k : ℕ) where
     is_key : key ≡ clause_key w k
     is_key = e ∙ sym (clause-word clause_requirements w k l)
 
-    pub examine-known : cache_of w key ≡ Known t → (v ≡ finding_at w k) × (w ≡ filled w k)
+    pub examine-known : cache_of w key ≡ Some t → (v ≡ finding_at w k) × (w ≡ filled w k)
     unfolding finding_at filled examine
     examine-known m =
-        let n : cache_of w (clause_key w k) ≡ Known t = rw is_key at m in
+        let n : cache_of w (clause_key w k) ≡ Some t = rw is_key at m in
         (q ∙ rw (h, examine, n, state_in), rw (h, n))
 
-    pub examine-dirty : (s : List ℕ) → cache_of w key ≡ Dirty → t ≡ evaluate (assigned w) (lists_at w key) → s ≡ saved w key t → (v ≡ finding_at w k) × (s ≡ filled w k)
+    pub examine-dirty : (s : List ℕ) → cache_of w key ≡ None → t ≡ evaluate (assigned w) (lists_at w key) → s ≡ saved w key t → (v ≡ finding_at w k) × (s ≡ filled w k)
     unfolding finding_at filled examine
     examine-dirty s m z p =
-        let n : cache_of w (clause_key w k) ≡ Dirty = rw is_key at m in
+        let n : cache_of w (clause_key w k) ≡ None = rw is_key at m in
         let y : t ≡ evaluate (assigned w) (lists_at w (clause_key w k)) = rw is_key at z in
         (q ∙ rw (h, examine, n, state_in, y), p ∙ rw (h, n, is_key, y))
 
@@ -80,17 +63,3 @@ module _ (w : List ℕ) (sound : Sound w) (k : ℕ) (l : k < at clause_count 0 w
   pub record_key : (key : ℕ) → key ≡ key_of clause.requirement → key ≡ at clause_requirements k w
   unfolding clause_at
   record_key key q = q ∙ ap (λ (c : Clause). key_of c.requirement) e ∙ key_back (at clause_requirements k w)
-
--- the examination of a queued clause
-module _ (w s : List ℕ) (k : ℕ) where
-  pub examined_shut : finding_at w k ≡ Shut → s ≡ dropped (filled w k) k → s ≡ examined w k
-  unfolding examined
-  examined_shut v q = q ∙ rw v
-
-  pub examined_open : (y n m : ℕ) → finding_at w k ≡ Open y n m → s ≡ filled w k → s ≡ examined w k
-  unfolding examined
-  examined_open y n m v q = q ∙ rw v
-
-  pub examined-dead : finding_at w k ≡ finding.Dead → s ≡ filled w k → s ≡ examined w k
-  unfolding examined
-  examined-dead v q = q ∙ rw v

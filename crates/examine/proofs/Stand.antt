@@ -1,5 +1,6 @@
 -- THE WORDS STAND FOR A QUEUE: an examination and a drop at the words are those of the queue, keep a store sound, and change nothing outside
 -- the queue's region. Assumes nothing.
+use Rattle.std.specs.Prelude.{Option, Some, None}
 use mathlib.Core.Bool.{Bool, true, false, cond, ◌&&◌}
 use mathlib.Core.List.{List}
 use mathlib.Core.Logic.{◌≢◌}
@@ -21,12 +22,11 @@ use Rattle.rules.specs.Queue.{fill, keep, examine, state_in, unmark}
 use Rattle.rules.specs.Walk.{Environment, active, evaluate}
 use Rattle.store.proofs.AreaLaws.{apart-inside, area_kept, at_kept, at-put_else, at-put-same, length_put}
 use Rattle.store.proofs.Soundness.{sound-put}
-use Rattle.store.specs.Area.{Area, apart, area, at}
+use Rattle.store.specs.declared.area.Area.{Area}
+use Rattle.store.specs.Area.{apart, area, at}
 use Rattle.store.specs.Layout.{cache_candidates, cache_counts, cache_names, cache_states, clause_count, environment_region, map, queue_region, queued}
 use Rattle.store.specs.Limits.{cell_room, last_name, last_variable}
 use Rattle.store.specs.Shape.{Sound}
-use Rattle.rules.specs.declared.Cache.{Cache}
-use Rattle.rules.specs.declared.Cache.TheVariants.{Dirty, Known}
 use Rattle.rules.specs.declared.State.{State}
 use Rattle.rules.specs.declared.State.TheVariants.{Satisfied, Frontier}
 use Rattle.rules.specs.declared.Value.{Value}
@@ -38,12 +38,12 @@ use Rattle.rules.specs.declared.Finding.TheVariants as finding
 
 -- an examination leaves the words, or writes its requirement's cache with numbers in range: what holds of both holds of what it leaves
 module _ (P : List ℕ → Type 0) (w : List ℕ) (key : ℕ) (same : P w) (step : (state x n m : ℕ) → state ≤ 2 → x ≤ last_variable → n ≤ last_name → m ≤ cell_room → P (cached w key state x n m)) where
-  refreshed-leaves : (m : Cache) (t : State) → Small t → P (refreshed w key m t)
+  refreshed-leaves : (m : (Option State)) (t : State) → Small t → P (refreshed w key m t)
   unfolding saved
-  refreshed-leaves (Known u) t s = same
-  refreshed-leaves Dirty (Satisfied x) s = step 1 x 0 0 (omega arith) s (omega arith) (omega arith)
-  refreshed-leaves Dirty (Frontier x n m) s = step 2 x n m (omega arith) s.0 s.1 s.2
-  refreshed-leaves Dirty state.Dead s = same
+  refreshed-leaves (Some u) t s = same
+  refreshed-leaves None (Satisfied x) s = step 1 x 0 0 (omega arith) s (omega arith) (omega arith)
+  refreshed-leaves None (Frontier x n m) s = step 2 x n m (omega arith) s.0 s.1 s.2
+  refreshed-leaves None state.Dead s = same
 
 module _ (w : List ℕ) (h : Sound w) (k : ℕ) where
   key : ℕ
@@ -77,20 +77,20 @@ module _ (w : List ℕ) (h : Sound w) (k : ℕ) where
   filled-outside r p = area-filled r (apart-inside r caches_region queue_region p tt)
 
   -- the cache that it fills, and the others
-  cache-refreshed : (m : Cache) (t : State) → cache_of w key ≡ m → cache_of (refreshed w key m t) key ≡ keep (state_in m t)
+  cache-refreshed : (m : (Option State)) (t : State) → cache_of w key ≡ m → cache_of (refreshed w key m t) key ≡ keep (state_in m t)
   unfolding saved cache_by key
-  cache-refreshed (Known (Satisfied x)) t e = e
-  cache-refreshed (Known (Frontier x n m)) t e = e
-  cache-refreshed (Known state.Dead) t e = absurd (never_known-dead w key e)
-  cache-refreshed Dirty (Satisfied x) e = cache-written w key 1 x 0 0 (key_below w k h) h.long
-  cache-refreshed Dirty (Frontier x n m) e = cache-written w key 2 x n m (key_below w k h) h.long
-  cache-refreshed Dirty state.Dead e = e
+  cache-refreshed (Some (Satisfied x)) t e = e
+  cache-refreshed (Some (Frontier x n m)) t e = e
+  cache-refreshed (Some state.Dead) t e = absurd (never_known-dead w key e)
+  cache-refreshed None (Satisfied x) e = cache-written w key 1 x 0 0 (key_below w k h) h.long
+  cache-refreshed None (Frontier x n m) e = cache-written w key 2 x n m (key_below w k h) h.long
+  cache-refreshed None state.Dead e = e
 
   cache-filled : (j : ℕ) → cache_of (filled w k) j ≡ (fill (env_of w) (assigned w) (queue_of w) k).cache j
   unfolding filled key worked
   cache-filled j = go (active (env_of w) (assigned w) k) (eqb j key) refl
     where
-      go : (b c : Bool) → eqb j key ≡ c → cache_of (cond b (refreshed w key (cache_of w key) worked) w) j ≡ elim (b && c) as (λ _. Cache) [ true ↦ keep (state_in (cache_of w j) (evaluate (assigned w) (lists_at w j))) | false ↦ cache_of w j ]
+      go : (b c : Bool) → eqb j key ≡ c → cache_of (cond b (refreshed w key (cache_of w key) worked) w) j ≡ elim (b && c) as (λ _. (Option State)) [ true ↦ keep (state_in (cache_of w j) (evaluate (assigned w) (lists_at w j))) | false ↦ cache_of w j ]
       go true true e = rw (eqb-true j key e) (cache-refreshed (cache_of w key) worked refl)
       go true false e =
           refreshed-leaves (λ u. cache_of u j ≡ cache_of w j) w key refl

@@ -1,5 +1,5 @@
 -- The caches in the words: what an examination of a clause finds by them, and the words that it leaves.
-use Rattle.std.specs.Prelude.{cond, List, [], ◌∷◌, ℕ}
+use Rattle.std.specs.Prelude.{Option, Some, None, cond, List, [], ◌∷◌, ℕ}
 use Rattle.meaning.specs.Standing.{env_of, cache_of, mark_of, queue_of, of_clause}
 use Rattle.meaning.specs.View.{lists_at}
 use Rattle.rules.specs.Queue.{Operations, examine}
@@ -7,8 +7,6 @@ use Rattle.rules.specs.Walk.{active, evaluate}
 use Rattle.store.specs.Area.{Write, put, puts, write}
 use Rattle.store.specs.Codes.{satisfied, frontier}
 use Rattle.store.specs.Layout.{queued, cache_states, cache_candidates, cache_names, cache_counts, clause_requirements}
-use Rattle.rules.specs.declared.Cache.{Cache}
-use Rattle.rules.specs.declared.Cache.TheVariants.{Dirty, Known}
 use Rattle.rules.specs.declared.State.{State}
 use Rattle.rules.specs.declared.State.TheVariants.{Satisfied, Frontier}
 use Rattle.trail.specs.Assignment.{assigned}
@@ -32,9 +30,9 @@ saved w key (Frontier x n m) = cached w key frontier x n m
 saved w key state.Dead = w
 
 -- a cache that is not dirty is believed and left; a dirty one gets what its requirement is
-abbrev pub refreshed : List ℕ → ℕ → Cache → State → List ℕ
-refreshed w key Dirty t = saved w key t
-refreshed w key (Known u) t = w
+abbrev pub refreshed : List ℕ → ℕ → Option State → State → List ℕ
+refreshed w key None t = saved w key t
+refreshed w key (Some u) t = w
 
 -- the key of a clause's requirement
 abbrev pub clause_key : List ℕ → ℕ → ℕ

@@ -5,25 +5,27 @@ ghost use Rattle.store.specs.Limits.{requirements};
 ghost use Rattle.meaning.specs.Standing.{cache_of};
 ghost use Rattle.examine.specs.Cache.{cached, saved};
 
-use rules::{Cache, State};
-use store::{codes, read, write};
+use rules::State;
+use store::{areas, codes};
 
-// What the cache says.
-pub fn recall(s: &[u32], key: usize) -> Cache
-    requires { (words ≤ length s.now) × (key < requirements) }
+// What the cache says: none while it is dirty.
+#[tactic(auto, unfolding(meaning::specs::Standing::cache_of, meaning::specs::Standing::cache_by))]
+pub fn recall(s: &[u32], key: usize) -> Option<State>
+    requires long { words ≤ length s.now }
+    requires known { key < requirements }
     ensures { result ≡ cache_of s.now key }
 {
-    let state = read::cache_state(s, key);
+    let state = areas::CACHE_STATES.at(s, key);
     if state == codes::DIRTY {
-        return Cache::Dirty;
+        return None;
     }
-    let candidate = read::cache_candidate(s, key);
+    let candidate = areas::CACHE_CANDIDATES.at(s, key);
     if state == codes::SATISFIED {
-        return Cache::Known(State::Satisfied(candidate));
+        return Some(State::Satisfied(candidate));
     }
-    let name = read::cache_name(s, key);
-    let count = read::cache_count(s, key);
-    Cache::Known(State::Frontier {
+    let name = areas::CACHE_NAMES.at(s, key);
+    let count = areas::CACHE_COUNTS.at(s, key);
+    Some(State::Frontier {
         candidate,
         name,
         count,
@@ -31,19 +33,23 @@ pub fn recall(s: &[u32], key: usize) -> Cache
 }
 
 // Writes the four words of a cache.
+#[tactic(auto, unfolding(crate::specs::Cache::cached))]
 fn write_cache(s: &mut [u32], key: usize, state: u32, candidate: u32, name: u32, count: u32)
-    requires { (words ≤ length s.old) × (key < requirements) }
+    requires long { words ≤ length s.old }
+    requires known { key < requirements }
     ensures { s.new ≡ cached s.old key state candidate name count }
 {
-    write::cache_state(s, key, state);
-    write::cache_candidate(s, key, candidate);
-    write::cache_name(s, key, name);
-    write::cache_count(s, key, count);
+    areas::CACHE_STATES.put(s, key, state);
+    areas::CACHE_CANDIDATES.put(s, key, candidate);
+    areas::CACHE_NAMES.put(s, key, name);
+    areas::CACHE_COUNTS.put(s, key, count);
 }
 
 // Keeps a state in the cache; a dead requirement's cache stays dirty.
+#[tactic(auto, unfolding(crate::specs::Cache::saved))]
 pub fn save(s: &mut [u32], key: usize, state: State)
-    requires { (words ≤ length s.old) × (key < requirements) }
+    requires long { words ≤ length s.old }
+    requires known { key < requirements }
     ensures { s.new ≡ saved s.old key state }
 {
     match state {

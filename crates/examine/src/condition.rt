@@ -7,40 +7,39 @@ ghost use Rattle.meaning.specs.View.{literal_at, literals_at};
 ghost use Rattle.trail.specs.Assignment.{assigned};
 ghost use Rattle.rules.specs.Numbers.{from};
 
-use store::{read, wide};
+use store::{areas, wide};
 use tables::disjunction;
 use trail::assignment;
 
 // Whether a literal is false: its variable is decided, and false (true, if negated).
+#[tactic(auto, unfolding(meaning::specs::View::literal_at))]
 fn literal_false(s: &[u32], i: usize) -> bool
-    requires { (Sound s.now) × (i < literal_room) }
+    requires sound { Sound s.now }
+    requires known { i < literal_room }
     ensures { result ≡ literal_false (assigned s.now) (literal_at s.now i) }
 {
-    let variable = read::literal_variable(s, i);
-    if read::literal_sign(s, i) == 1 {
-        return assignment::is_true(s, variable);
+    let variable = areas::LITERAL_VARIABLES.at(s, i);
+    if areas::LITERAL_SIGNS.at(s, i) == 1 {
+        assignment::is_true(s, variable)
+    } else {
+        assignment::is_false(s, variable)
     }
-    assignment::is_false(s, variable)
 }
 
 // Whether each of n literals is false.
 fn all_false(s: &[u32], start: usize, n: usize) -> bool
-    requires { (Sound s.now) × (start + n ≤ literal_room) }
+    requires sound { Sound s.now }
+    requires inside { start + n ≤ literal_room }
     ensures { result ≡ all_false (assigned s.now) (from (literal_at s.now) start n) }
 {
-    let mut i: usize = 0;
-    while i < n {
-        if literal_false(s, start + i) {} else {
-            return false;
-        }
-        i += 1;
-    }
-    true
+    (start..start + n).all(|i| literal_false(s, i))
 }
 
 // Whether a condition passes, as a clause stores it.
+#[tactic(auto, using(crate::proofs::Literals::literals))]
 pub fn passes(s: &[u32], condition: u32) -> bool
-    requires { (Sound s.now) × (condition ≤ disjunctions) }
+    requires sound { Sound s.now }
+    requires known { condition ≤ disjunctions }
     ensures { result ≡ all_false (assigned s.now) (literals_at s.now condition) }
 {
     let literals = disjunction::literals_under(s, condition);

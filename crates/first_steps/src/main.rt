@@ -4,47 +4,42 @@
 
 use script::say;
 use std::io::{self, Write};
-use store::{areas, limits};
+use store::{Refusal, areas, limits};
 use trail::{Assigned, Undone, Valued};
 
-fn say_assigned<W: Write>(out: &mut W, answer: Assigned) -> io::Result<()> {
+// `edges` says it so too: no crate above `trail` is below both, and one for this alone is no plainer.
+fn say_assigned<W: Write>(out: &mut W, answer: Result<Assigned, Refusal>) -> io::Result<()> {
     match answer {
-        Assigned::New => say::text(out, b"new\n"),
-        Assigned::Already => say::text(out, b"already\n"),
-        Assigned::Refused(n) => say::refused(out, n),
+        Ok(Assigned::New) => writeln!(out, "new"),
+        Ok(Assigned::Already) => writeln!(out, "already"),
+        Err(refusal) => say::refused(out, refusal),
     }
 }
 
-fn say_undone<W: Write>(out: &mut W, answer: Undone) -> io::Result<()> {
+fn say_undone<W: Write>(out: &mut W, answer: Result<Undone, Refusal>) -> io::Result<()> {
     match answer {
-        Undone::Popped(decision, level) => {
-            say::text(out, b"popped variable")?;
-            say::word(out, decision.variable)?;
-            say::text(out, b" of clause")?;
-            say::word(out, decision.clause)?;
-            say::named(out, b"; the last entry is at level", level)
-        }
-        Undone::Refused(n) => say::refused(out, n),
+        Ok(Undone { decision, level }) => writeln!(
+            out,
+            "popped variable {} of clause {}; the last entry is at level {level}",
+            decision.variable, decision.clause
+        ),
+        Err(refusal) => say::refused(out, refusal),
     }
 }
 
-fn say_value<W: Write>(out: &mut W, answer: Valued) -> io::Result<()> {
+fn say_value<W: Write>(out: &mut W, answer: Result<Option<Valued>, Refusal>) -> io::Result<()> {
     match answer {
-        Valued::Decided { value, level } => {
-            say::text(out, b"value")?;
-            say::word(out, value)?;
-            say::named(out, b" at level", level)
-        }
-        Valued::Undecided => say::text(out, b"undecided\n"),
-        Valued::Refused(n) => say::refused(out, n),
+        Ok(Some(Valued { value, level })) => writeln!(out, "value {value} at level {level}"),
+        Ok(None) => writeln!(out, "undecided"),
+        Err(refusal) => say::refused(out, refusal),
     }
 }
 
 fn main(rt: HostRuntime) -> io::Result<()> {
     let mut out = rt.stdout();
-    say::named(&mut out, b"words of a store:", areas::WORDS as u32)?;
+    writeln!(out, "words of a store: {}", areas::WORDS)?;
     let mut words = [0u32; limits::WORD_ROOM];
-    store::fresh::fresh(&mut words);
+    let _ = store::fresh::fresh(&mut words);
     say_assigned(&mut out, trail::assign(&mut words, 0, 1, 1, 10))?;
     say_assigned(&mut out, trail::assign(&mut words, 7, 0, 2, 11))?;
     say_assigned(&mut out, trail::assign(&mut words, 7, 1, 3, 12))?;

@@ -1,8 +1,7 @@
 // The entry points on numbers and slices, which `imbolaverk_c` hands to C under their names. Each is total on any arguments, and answers 0
-// for done or the number of its refusal. In each module a function `.._number` gives the number of an answer, and `give_..` gives it and
-// writes the answer's values to the lent output.
+// for done or the number of its refusal. `out` gives that number, and writes an answer's values to the lent output.
 
-#![tactic(auto)]
+#![tactic(auto, using(crate::proofs::Links::numbered, crate::proofs::Links::spoken))]
 
 pub mod clauses_calls;
 pub mod conditions_calls;

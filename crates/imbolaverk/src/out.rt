@@ -1,60 +1,69 @@
-// Lent outputs: the values are written from the front on, the rest is kept.
-ghost use Rattle.std.specs.Prelude.{◌≡◌, [], ◌∷◌, ◌<◌, set};
+// What C is told of an answer: its number, and its values in a lent output, from the front on; the rest of the output is kept.
+ghost use Rattle.std.specs.Prelude.{◌≡◌, ◌≤◌, [], ◌∷◌, List, ℕ, length};
+ghost use Rattle.conditions.specs.Disjunct.{holds_values};
 ghost use Rattle.imbolaverk.specs.Written.{written};
+ghost use Rattle.store.specs.Row.{answer_number, answer_values};
 
-pub fn set_one(out: &mut [u32; 1], a: u32)
-    ensures { out.new ≡ written (a ∷ []) out.old }
-{
-    out[0] = a;
+use store::Refusal;
+
+// What an answer holds has values to tell.
+pub trait Values: Copy {
+    ghost values: { Self → List ℕ };
+
+    // Writes them from the front on.
+    fn write(self, out: &mut [u32])
+        requires { length (values self) ≤ length out.old }
+        ensures { out.new ≡ written (values self) out.old };
 }
 
-pub fn set_two(out: &mut [u32; 2], a: u32, b: u32)
-    ensures { out.new ≡ written (a ∷ b ∷ []) out.old }
-{
-    out[0] = a;
-    out[1] = b;
+// A number is its own value.
+impl Values for u32 {
+    ghost values = { λ n. n ∷ [] };
+
+    fn write(self, out: &mut [u32]) {
+        write(out, &[self])
+    }
 }
 
-pub fn set_four(out: &mut [u32; 4], a: u32, b: u32, c: u32, d: u32)
-    ensures { out.new ≡ written (a ∷ b ∷ c ∷ d ∷ []) out.old }
-{
-    out[0] = a;
-    out[1] = b;
-    out[2] = c;
-    out[3] = d;
+// Whether something holds: 1 if so.
+impl Values for bool {
+    ghost values = { holds_values };
+
+    fn write(self, out: &mut [u32]) {
+        write(out, &[u32::from(self)])
+    }
 }
 
-// The first of two alone.
-pub fn set_first_of_two(out: &mut [u32; 2], a: u32)
-    ensures { out.new ≡ written (a ∷ []) out.old }
+// Writes values from the front on.
+#[tactic(auto, using(crate::proofs::Outputs::written_is))]
+pub fn write(out: &mut [u32], values: &[u32])
+    requires { length values.now ≤ length out.old }
+    ensures { out.new ≡ written values.now out.old }
 {
-    out[0] = a;
+    out[..values.len()].copy_from_slice(values);
 }
 
-// The first of four alone.
-pub fn set_first_of_four(out: &mut [u32; 4], a: u32)
-    ensures { out.new ≡ written (a ∷ []) out.old }
+// The number of an answer: 0 for done, else its refusal's.
+pub fn number<T: Copy>(answer: Result<T, Refusal>) -> u32
+    ensures { result ≡ answer_number answer }
 {
-    out[0] = a;
+    match answer {
+        Ok(_) => 0,
+        Err(refusal) => refusal.number(),
+    }
 }
 
-pub fn set_seven(out: &mut [u32; 7], a: u32, b: u32, c: u32, d: u32, e: u32, f: u32, g: u32)
-    ensures { out.new ≡ written (a ∷ b ∷ c ∷ d ∷ e ∷ f ∷ g ∷ []) out.old }
+// The number, with the values in the output; a refusal has none.
+pub fn give<T: Values, const N: usize>(answer: Result<T, Refusal>, out: &mut [u32; N]) -> u32
+    requires fits { (x : _) → length (T.values x) ≤ N }
+    ensures number { result ≡ answer_number answer }
+    ensures told { out.new ≡ written (answer_values T.values answer) out.old }
 {
-    out[0] = a;
-    out[1] = b;
-    out[2] = c;
-    out[3] = d;
-    out[4] = e;
-    out[5] = f;
-    out[6] = g;
-}
-
-// One of seven, and the last.
-pub fn set_one_and_last(out: &mut [u32; 7], place: usize, a: u32, g: u32)
-    requires { place < 7 }
-    ensures { out.new ≡ set (set out.old place a) 6 g }
-{
-    out[place] = a;
-    out[6] = g;
+    match answer {
+        Ok(x) => {
+            x.write(out);
+            0
+        }
+        Err(refusal) => refusal.number(),
+    }
 }

@@ -1,31 +1,23 @@
 // Loading version sets, unions, disjunctions and condition nodes.
 ghost use Rattle.std.specs.Prelude.{◌≡◌};
 ghost use Rattle.imbolaverk.specs.Calls.{number_of, left_by, load_version_set, load_union, load_disjunction, load_condition};
-ghost use Rattle.tables.specs.Answer.{loaded_number};
 
-use tables::Loaded;
-
-fn loaded_number(answer: Loaded) -> u32
-    ensures { result ≡ loaded_number answer }
-{
-    match answer {
-        Loaded::Done => 0,
-        Loaded::Refused(n) => n,
-    }
-}
+use crate::out;
 
 // Loads a version set with its name.
 pub fn imb_load_version_set(s: &mut [u32], set: u32, name: u32) -> u32
-    ensures { (result ≡ number_of s.old (load_version_set set name)) × (s.new ≡ left_by s.old (load_version_set set name)) }
+    ensures number { result ≡ number_of s.old (load_version_set set name) }
+    ensures left { s.new ≡ left_by s.old (load_version_set set name) }
 {
-    loaded_number(tables::load_version_set(s, set, name))
+    out::number(tables::load_version_set(s, set, name))
 }
 
 // Loads a union of version sets.
 pub fn imb_load_union(s: &mut [u32], union: u32, members: &[u32]) -> u32
-    ensures { (result ≡ number_of s.old (load_union union members.now)) × (s.new ≡ left_by s.old (load_union union members.now)) }
+    ensures number { result ≡ number_of s.old (load_union union members.now) }
+    ensures left { s.new ≡ left_by s.old (load_union union members.now) }
 {
-    loaded_number(tables::load_union(s, union, members))
+    out::number(tables::load_union(s, union, members))
 }
 
 // Loads a disjunction: literal j is variables[j] with signs[j] (0 plain, 1 negated).
@@ -35,14 +27,16 @@ pub fn imb_load_disjunction(
     variables: &[u32],
     signs: &[u32],
 ) -> u32
-    ensures { (result ≡ number_of s.old (load_disjunction disjunction variables.now signs.now)) × (s.new ≡ left_by s.old (load_disjunction disjunction variables.now signs.now)) }
+    ensures number { result ≡ number_of s.old (load_disjunction disjunction variables.now signs.now) }
+    ensures left { s.new ≡ left_by s.old (load_disjunction disjunction variables.now signs.now) }
 {
-    loaded_number(tables::load_disjunction(s, disjunction, variables, signs))
+    out::number(tables::load_disjunction(s, disjunction, variables, signs))
 }
 
 // Loads a condition node: kind 0 is a leaf of the version set `left`, 1 the `and` and 2 the `or` of two nodes.
 pub fn imb_load_condition(s: &mut [u32], node: u32, kind: u32, left: u32, right: u32) -> u32
-    ensures { (result ≡ number_of s.old (load_condition node kind left right)) × (s.new ≡ left_by s.old (load_condition node kind left right)) }
+    ensures number { result ≡ number_of s.old (load_condition node kind left right) }
+    ensures left { s.new ≡ left_by s.old (load_condition node kind left right) }
 {
-    loaded_number(tables::load_condition(s, node, kind, left, right))
+    out::number(tables::load_condition(s, node, kind, left, right))
 }

@@ -14,7 +14,8 @@ pub extern "C" fn imb_register(
     condition: u32,
     clause: u32,
 ) -> u32
-    ensures { (result ≡ number_of s.old (register parent kind requirement condition clause)) × (s.new ≡ left_by s.old (register parent kind requirement condition clause)) }
+    ensures number { result ≡ number_of s.old (register parent kind requirement condition clause) }
+    ensures left { s.new ≡ left_by s.old (register parent kind requirement condition clause) }
 {
     clauses_calls::imb_register(s, parent, kind, requirement, condition, clause)
 }

@@ -10,14 +10,18 @@ use imbolaverk::queue_calls;
 
 #[unsafe(no_mangle)]
 pub extern "C" fn imb_sync(s: &mut [u32], out: &mut [u32; 1]) -> u32
-    ensures { (result ≡ number_of s.old sync) × (s.new ≡ left_by s.old sync) × (out.new ≡ written (values_of s.old sync) out.old) }
+    ensures number { result ≡ number_of s.old sync }
+    ensures left { s.new ≡ left_by s.old sync }
+    ensures told { out.new ≡ written (values_of s.old sync) out.old }
 {
     queue_calls::imb_sync(s, out)
 }
 
 #[unsafe(no_mangle)]
 pub extern "C" fn imb_propose(s: &mut [u32], out: &mut [u32; 7]) -> u32
-    ensures { (result ≡ number_of s.old propose) × (s.new ≡ left_by s.old propose) × (out.new ≡ proposed (answer_any s.old (proposal_row s.old)) out.old) }
+    ensures number { result ≡ number_of s.old propose }
+    ensures left { s.new ≡ left_by s.old propose }
+    ensures told { out.new ≡ proposed (answer_any s.old (proposal_row s.old)) out.old }
 {
     queue_calls::imb_propose(s, out)
 }

@@ -16,7 +16,8 @@ pub extern "C" fn imb_words() -> usize
 // Makes a fresh store, whatever the words held.
 #[unsafe(no_mangle)]
 pub extern "C" fn imb_fresh(s: &mut [u32]) -> u32
-    ensures { (result ≡ number_of s.old fresh) × (s.new ≡ left_by s.old fresh) }
+    ensures number { result ≡ number_of s.old fresh }
+    ensures left { s.new ≡ left_by s.old fresh }
 {
     store_calls::imb_fresh(s)
 }

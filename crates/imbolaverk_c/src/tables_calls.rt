@@ -7,7 +7,8 @@ use imbolaverk::tables_calls;
 // Loads a version set with its name.
 #[unsafe(no_mangle)]
 pub extern "C" fn imb_load_version_set(s: &mut [u32], set: u32, name: u32) -> u32
-    ensures { (result ≡ number_of s.old (load_version_set set name)) × (s.new ≡ left_by s.old (load_version_set set name)) }
+    ensures number { result ≡ number_of s.old (load_version_set set name) }
+    ensures left { s.new ≡ left_by s.old (load_version_set set name) }
 {
     tables_calls::imb_load_version_set(s, set, name)
 }
@@ -15,7 +16,8 @@ pub extern "C" fn imb_load_version_set(s: &mut [u32], set: u32, name: u32) -> u3
 // Loads a union of version sets.
 #[unsafe(no_mangle)]
 pub extern "C" fn imb_load_union(s: &mut [u32], union: u32, members: &[u32]) -> u32
-    ensures { (result ≡ number_of s.old (load_union union members.now)) × (s.new ≡ left_by s.old (load_union union members.now)) }
+    ensures number { result ≡ number_of s.old (load_union union members.now) }
+    ensures left { s.new ≡ left_by s.old (load_union union members.now) }
 {
     tables_calls::imb_load_union(s, union, members)
 }
@@ -28,7 +30,8 @@ pub extern "C" fn imb_load_disjunction(
     variables: &[u32],
     signs: &[u32],
 ) -> u32
-    ensures { (result ≡ number_of s.old (load_disjunction disjunction variables.now signs.now)) × (s.new ≡ left_by s.old (load_disjunction disjunction variables.now signs.now)) }
+    ensures number { result ≡ number_of s.old (load_disjunction disjunction variables.now signs.now) }
+    ensures left { s.new ≡ left_by s.old (load_disjunction disjunction variables.now signs.now) }
 {
     tables_calls::imb_load_disjunction(s, disjunction, variables, signs)
 }
@@ -42,7 +45,8 @@ pub extern "C" fn imb_load_condition(
     left: u32,
     right: u32,
 ) -> u32
-    ensures { (result ≡ number_of s.old (load_condition node kind left right)) × (s.new ≡ left_by s.old (load_condition node kind left right)) }
+    ensures number { result ≡ number_of s.old (load_condition node kind left right) }
+    ensures left { s.new ≡ left_by s.old (load_condition node kind left right) }
 {
     tables_calls::imb_load_condition(s, node, kind, left, right)
 }

@@ -10,7 +10,8 @@ use Rattle.meaning.specs.View.{list_at, lists_at, literal_at, literals_at}
 use Rattle.requirement.specs.Tables.{cells_of, first_slot, list_count, set_count, set_of}
 use Rattle.rules.specs.Store.{tuned}
 use Rattle.store.proofs.AreaLaws.{area_same, at_same, within}
-use Rattle.store.specs.Area.{Area, area, at}
+use Rattle.store.specs.declared.area.Area.{Area}
+use Rattle.store.specs.Area.{area, at}
 use Rattle.store.specs.Layout.{activities, cache_candidates, cache_counts, cache_names, cache_states, candidates, clause_conditions, clause_count, clause_ids, clause_parents, clause_requirements, clauses_region, disjunction_sizes, disjunction_starts, environment_region, hot_names, list_lengths, list_starts, literal_signs, literal_variables, map, mirror, mirror_length, mirror_region, mode, queue_region, queued, region, set_names, tables_loaded, tables_region, trail_length, trail_region, trail_values, trail_variables, union_sets, union_sizes}
 use Rattle.store.specs.Limits.{names, version_sets}
 use Rattle.trail.specs.Assignment.{assigned}

@@ -11,7 +11,8 @@ use Rattle.rules.proofs.Choice.{both}
 use Rattle.rules.proofs.Froms.{length_from, part-from}
 use Rattle.rules.specs.Numbers.{from}
 use Rattle.store.proofs.AreaLaws.{length_area}
-use Rattle.store.specs.Area.{Area, Fits, area, at}
+use Rattle.store.specs.declared.area.Area.{Area}
+use Rattle.store.specs.Area.{Fits, area, at}
 use Rattle.store.specs.Layout.{mirror, mirror_length, trail_length}
 use Rattle.store.specs.Limits.{trail_room}
 use Rattle.store.specs.Shape.{Sound, every, up_to}

@@ -9,23 +9,15 @@ use borrow.Author.Tests.{ltb-true, ltb-false}
 use lib.Dec.{eqb, ltb}
 use Rattle.requirement.proofs.Copying.{count_most}
 use Rattle.requirement.proofs.Spans.{lies_facts, single_lies, union_lies}
-use Rattle.meaning.specs.View.{literal_at, literals_at, run}
-use Rattle.requirement.specs.Tables.{cells_of, first_slot, list_count}
+use Rattle.meaning.specs.View.{literal_at, literals_at}
+use Rattle.requirement.specs.Tables.{first_slot, list_count}
 use Rattle.rules.proofs.Choice.{eq_or, lt_or}
 use Rattle.store.specs.Area.{at}
-use Rattle.store.specs.Layout.{list_starts, list_lengths, single_cells, candidates, disjunction_starts, disjunction_sizes, literal_variables}
-use Rattle.store.specs.Limits.{variables, version_sets, union_room, cell_room, literal_room, requirements, lists, last_variable, most_disjunction_size}
+use Rattle.store.specs.Layout.{list_starts, list_lengths, single_cells, disjunction_starts, disjunction_sizes}
+use Rattle.store.specs.Limits.{version_sets, union_room, cell_room, literal_room, requirements, lists, most_disjunction_size}
 use Rattle.rules.specs.Numbers.{from}
 use Rattle.tables.specs.Disjunction.{literals_of, literals_under}
 use Rattle.store.specs.Shape.{lies, unions_from, Sound}
-
--- a cell names a variable
-pub cell_variable : (w : List ℕ) (i x : ℕ) → Sound w → x ≡ at candidates i w → x < variables
-cell_variable w i x h e = let m = h.ranges candidates last_variable tt i in omega arith
-
--- so does a literal
-pub literal_variable : (w : List ℕ) (i x : ℕ) → Sound w → x ≡ at literal_variables i w → x < variables
-literal_variable w i x h e = let m = h.ranges literal_variables last_variable tt i in omega arith
 
 -- a list lies in the cells; an empty one may begin at their end
 span_within : (w : List ℕ) (slot low high : ℕ) → Sound w → high ≤ cell_room → lies low high (at list_starts slot w) (at list_lengths slot w) ≡ true → at list_starts slot w + at list_lengths slot w ≤ cell_room
@@ -83,8 +75,3 @@ slots-of w key slot n h k p q = go (ltb key version_sets) refl p
     go : (b : Bool) → ltb key version_sets ≡ b → slot ≡ cond b key (version_sets + union_room * (key - version_sets)) → slot + n ≤ lists
     go true e f = omega (arith, ltb-true key version_sets e, count_most w key h.ranges)
     go false e f = omega (arith, ltb-false key version_sets e, count_most w key h.ranges)
-
--- the cells of a list are those that were read
-pub cells-run : (w : List ℕ) (slot place n : ℕ) → place ≡ at list_starts slot w → n ≡ at list_lengths slot w → run w place n ≡ cells_of w slot
-unfolding run cells_of
-cells-run w slot place n p q = rw (p, q)

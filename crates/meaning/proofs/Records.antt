@@ -1,18 +1,17 @@
 -- What the code reads of a clause and of a cache: its range, and what it says. Assumes nothing.
+use Rattle.std.specs.Prelude.{None}
 use mathlib.Core.Bool.{Bool, true, false, cond}
 use mathlib.Core.List.{List}
-use mathlib.Core.Logic.{◌≢◌}
 use mathlib.Core.Path.{◌≡◌}
 use Prim.Native.Nat.{ℕ, ◌≤◌, ◌<◌}
 use native.Mathlib.Omega.{arith}
-use borrow.Author.Tests.{lt-ltb, le-ltb, eq-eqb, ne_eqb}
+use borrow.Author.Tests.{lt-ltb, le-ltb, eq-eqb}
 use lib.Dec.{T, ltb}
 use Rattle.meaning.specs.Standing.{cache_by, cache_of, of_clause}
-use Rattle.rules.specs.declared.Cache.TheVariants.{Dirty, Known}
-use Rattle.rules.specs.declared.State.TheVariants.{Satisfied, Frontier}
-use Rattle.store.specs.Area.{Area, ◌upto◌, at}
-use Rattle.store.specs.Codes.{dirty, satisfied}
-use Rattle.store.specs.Layout.{cache_candidates, cache_counts, cache_names, cache_states, clause_conditions, clause_count, clause_parents, clause_requirements, table}
+use Rattle.store.specs.declared.area.Area.{Area}
+use Rattle.store.specs.Area.{◌upto◌, at}
+use Rattle.store.specs.Codes.{dirty}
+use Rattle.store.specs.Layout.{cache_states, clause_conditions, clause_count, clause_parents, clause_requirements, table}
 use Rattle.store.specs.Limits.{clauses, disjunctions, last_requirement, last_variable, requirements, variables}
 use Rattle.store.specs.Shape.{Sound, listed}
 
@@ -52,20 +51,8 @@ module _ (w : List ℕ) (h : Sound w) where
   pub requirement-below : (k x : ℕ) → x ≡ at clause_requirements k w → x < requirements
   requirement-below k x e = let m = h.ranges clause_requirements last_requirement tt k in omega arith
 
-  pub cached-variable : (key x : ℕ) → x ≡ at cache_candidates key w → x < variables
-  cached-variable key x e = let m = h.ranges cache_candidates last_variable tt key in omega arith
-
 -- a cache, by its words
 module _ (w : List ℕ) (key state : ℕ) (is : state ≡ at cache_states key w) where
-  pub cache-dirty : state ≡ dirty → Dirty ≡ cache_of w key
+  pub cache-dirty : state ≡ dirty → None ≡ cache_of w key
   unfolding cache_of cache_by
   cache-dirty h = rw (← is, eq-eqb state dirty h)
-
-  module _ (x : ℕ) (e : x ≡ at cache_candidates key w) (h : state ≢ dirty) where
-    pub cache-satisfied : state ≡ satisfied → Known (Satisfied x) ≡ cache_of w key
-    unfolding cache_of cache_by
-    cache-satisfied i = rw (← is, ne_eqb state dirty h, eq-eqb state satisfied i, e)
-
-    pub cache-frontier : (n m : ℕ) → state ≢ satisfied → n ≡ at cache_names key w → m ≡ at cache_counts key w → Known (Frontier x n m) ≡ cache_of w key
-    unfolding cache_of cache_by
-    cache-frontier n m i f g = rw (← is, ne_eqb state dirty h, ne_eqb state satisfied i, e, f, g)

@@ -1,14 +1,14 @@
 -- The store of document 01 that the words stand for: its clauses, tables and settings, its queue, its trail, mirror and floor.
-use Rattle.std.specs.Prelude.{Bool, cond, List, ℕ, ltb, eqb, take}
+use Rattle.std.specs.Prelude.{Option, Some, None, Bool, cond, List, ℕ, ltb, eqb, take}
 use Rattle.meaning.specs.View.{lists_at, literals_at}
 use Rattle.rules.specs.Queue.{Queue}
 use Rattle.rules.specs.Store.{Store}
 use Rattle.rules.specs.Sync.{Entry}
 use Rattle.rules.specs.Walk.{Environment}
-use Rattle.rules.specs.declared.Cache.{Cache}
-use Rattle.rules.specs.declared.Cache.TheVariants.{Dirty, Known}
+use Rattle.rules.specs.declared.State.{State}
 use Rattle.rules.specs.declared.State.TheVariants.{Satisfied, Frontier}
-use Rattle.store.specs.Area.{Area, area, at}
+use Rattle.store.specs.declared.area.Area.{Area}
+use Rattle.store.specs.Area.{area, at}
 use Rattle.store.specs.Codes.{dirty, satisfied, standard_mode}
 use Rattle.store.specs.Layout.{queued, cache_states, cache_candidates, cache_names, cache_counts, mirror, mirror_length, sync_floor, trail_length, trail_variables, trail_values, mode, activities, hot_names, clause_count, clause_parents, clause_requirements, clause_conditions, clause_ids}
 use Rattle.store.specs.Limits.{names}
@@ -36,11 +36,11 @@ env_of w =
     }
 
 -- a cache's four words: dirty; satisfied by a candidate; or a frontier's first candidate, name and count
-unfoldable pub cache_by : ℕ → ℕ → ℕ → ℕ → Cache
-cache_by state candidate name count = cond (eqb state dirty) Dirty (cond (eqb state satisfied) (Known (Satisfied candidate)) (Known (Frontier candidate name count)))
+unfoldable pub cache_by : ℕ → ℕ → ℕ → ℕ → Option State
+cache_by state candidate name count = cond (eqb state dirty) None (cond (eqb state satisfied) (Some (Satisfied candidate)) (Some (Frontier candidate name count)))
 
 -- the cache of a requirement
-unfoldable pub cache_of : List ℕ → ℕ → Cache
+unfoldable pub cache_of : List ℕ → ℕ → Option State
 cache_of w key = cache_by (at cache_states key w) (at cache_candidates key w) (at cache_names key w) (at cache_counts key w)
 
 -- "a queued mark per clause"

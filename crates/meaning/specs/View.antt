@@ -1,14 +1,10 @@
 -- What the words say of the tables: the candidate lists of a requirement, the literals of a condition.
-use Rattle.std.specs.Prelude.{cond, List, [], ℕ, ◌-◌, eqb, take, drop}
+use Rattle.std.specs.Prelude.{cond, List, [], ℕ, ◌-◌, eqb}
 use Rattle.requirement.specs.Tables.{first_slot, list_count, set_of, name_of, cells_of}
 use Rattle.rules.specs.Numbers.{from}
 use Rattle.rules.specs.Walk.{Literal, CandidateList}
-use Rattle.store.specs.Area.{area, at}
-use Rattle.store.specs.Layout.{candidates, disjunction_starts, disjunction_sizes, literal_variables, literal_signs}
-
--- n cells from a start on
-unfoldable pub run : List ℕ → ℕ → ℕ → List ℕ
-run w place n = take n (drop place (area candidates w))
+use Rattle.store.specs.Area.{at}
+use Rattle.store.specs.Layout.{disjunction_starts, disjunction_sizes, literal_variables, literal_signs}
 
 -- a list of a requirement: its candidates, and the name of its version set
 unfoldable pub list_at : List ℕ → ℕ → CandidateList

@@ -20,6 +20,7 @@ use Rattle.rules.specs.declared.Value.{Value}
 use Rattle.trail.specs.Assignment.{assigned}
 use Rattle.rules.specs.declared.Out.TheVariants as out
 use Rattle.store.specs.Row.{answer_any}
+use Rattle.std.specs.Prelude.{Ok}
 
 -- the queue of a reached and synced store is right for the present assignment
 pub reached-holds : (w : List ℕ) → ReachedWords w → unsynced w ≡ false → Holds (env_of w) (assigned w) [] (queue_of w)
@@ -29,8 +30,8 @@ reached-holds w r u =
 
 -- DEMAND 2: on a reached and synced store the proposal is the walk's, over the clauses, tables, activities, hot names and mode (`env_of w`)
 -- and the present assignment alone; only the number of dropped clauses is the queue's
-pub demand2 : (w : List ℕ) → ReachedWords w → unsynced w ≡ false → answer_any w (proposal_row w) ≡ told w (walk (env_of w) (assigned w)) (answer w).drops
-demand2 w r u = rw (reached-sound w r, u) (proposal_is w (reached_genuine w r).sound (reached-holds w r u))
+pub demand2 : (w : List ℕ) → ReachedWords w → unsynced w ≡ false → answer_any w (proposal_row w) ≡ Ok (told w (walk (env_of w) (assigned w)) (answer w).drops)
+demand2 w r u = rw (reached-sound w r, u) (ap Ok (proposal_is w (reached_genuine w r).sound (reached-holds w r u)))
 
 -- two stores that have all but the mode in common have one environment, but for the mode
 env_but_mode : (w u : List ℕ) → SameButMode w u → env_of w ≡ in_mode (env_of u) (env_of w).standard
@@ -51,7 +52,7 @@ env_but_mode w u s =
     }
 
 -- and are told the same of one answer
-told_same : (w u : List ℕ) → SameClauses w u → (o : Out) (d e : ℕ) → undropped (told w o d) ≡ undropped (told u o e)
+told_same : (w u : List ℕ) → SameClauses w u → (o : Out) (d e : ℕ) → undropped (Ok (told w o d)) ≡ undropped (Ok (told u o e))
 told_same w u s Nothing d e = refl
 told_same w u s (out.Dead c) d e = refl
 told_same w u s (Choose b) d e = rw (s.parents b.clause, s.ids b.clause)
@@ -62,7 +63,7 @@ pub one_proposal : (w u : List ℕ) → ReachedWords w → ReachedWords u → un
 one_proposal w u r q x y s e =
     rw (demand2 w r x, demand2 u q y)
     (told_same w u s.clauses_same (walk (env_of w) (assigned w)) (answer w).drops (answer u).drops
-    ∙ ap (λ (o : Out). undropped (told u o (answer u).drops))
+    ∙ ap (λ (o : Out). undropped (Ok (told u o (answer u).drops)))
     (ap (λ (f : Environment). walk f (assigned w)) (env_but_mode w u s)
     ∙ ap (λ (a : ℕ → Value). walk (in_mode (env_of u) (env_of w).standard) a) (fun_ext s.assignments_same)
     ∙ e))

@@ -29,7 +29,7 @@ use Rattle.rules.specs.Queue.{examine, queued_turn}
 use Rattle.rules.specs.Sync.{meets, mentions}
 use Rattle.rules.specs.Walk.{member, all_false, flattened, first_that, count_undecided, frontier, evaluate, largest, any_hot, up_to}
 use Rattle.rules.specs.Activity.{good, admitted}
-use Rattle.settings.specs.Settings.{activity_with, quiet, activity_on, activity_on_store, activity_tests}
+use Rattle.settings.specs.Settings.{activity_with, quiet, activity_tests}
 use Rattle.store.specs.Area.{area, at, put, put_run, blank}
 use Rattle.store.specs.Fresh.{fresh_words, fresh_row}
 use Rattle.store.specs.Lent.{lengths_of, joined, over}
@@ -38,8 +38,8 @@ use Rattle.store.specs.Ranks.{moved, inserted}
 use Rattle.store.specs.Shape.{every}
 use Rattle.sync.specs.Sweep.{sweep}
 use Rattle.sync.specs.Sync.{old_entries, new_entries, touched_in, touches_in, wakes_at, spoils_at, woken_words, spoiled_words, swept_words, copied_words, mirrored_words, sync_left}
-use Rattle.tables.specs.Answer.{loaded}
-use Rattle.tables.specs.Condition.{leaf_in, branch_in, leafed, branched, node_put, load_condition_tests}
+use Rattle.tables.specs.Loaded.{loaded}
+use Rattle.tables.specs.Condition.{leafed, branched, node_put, load_condition_tests}
 use Rattle.tables.specs.Disjunction.{literals_of}
 use Rattle.tables.specs.VersionSet.{load_version_set_tests}
 use Rattle.trail.specs.Assign.{assign_on, pushed, assign_tests}
@@ -125,7 +125,7 @@ unfoldable onward_of : Ran → List (List (List ℕ))
 onward_of r = r.said ∷ each_in r.left onward
 
 computed : (each_in first alone ≡ map expected alone) × (onward_of third ≡ map expected (p3 ∷ onward))
-unfolding other_name new_name name_count new_names distinct_names known_condition condition_word literal_count_of all_named has_room register_tests queued_mark record_in registered behind prefixed cross node_terms dnf linked lengths_of joined too_much rewrite_tests over rewrite_sound_lengths rewrite_sound_cells of_clause cache_by cache_of mark_of assigned from list_at lists_at literal_at literals_at cached saved finding_at filled proposal_answer proposal_left run_in step_in answer unsynced tabled adds known fitting load_tests put_lists table_at loaded_single loaded_union table_made requirement_of first_slot set_count list_count set_of cells_of examine queued_turn up_to mentions meets member all_false flattened first_that count_undecided frontier evaluate largest any_hot good admitted activity_with quiet activity_on activity_on_store activity_tests area at put put_run blank fresh_words all_from moved inserted every sweep old_entries new_entries touched_in touches_in wakes_at spoils_at woken_words spoiled_words swept_words copied_words mirrored_words sync_left loaded leaf_in branch_in load_condition_tests leafed branched node_put literals_of load_version_set_tests assign_on assign_tests pushed cell_value cell_side cell_level cell_of decision_at level_at level_of_last entry_above popped undo_last_tests popped_to cleared no_stop undo_until_tests odd of_fields of_bits to_bits size climb span onward_of
+unfolding other_name new_name name_count new_names distinct_names known_condition condition_word literal_count_of all_named has_room register_tests queued_mark record_in registered behind prefixed cross node_terms dnf linked lengths_of joined too_much rewrite_tests over rewrite_sound_lengths rewrite_sound_cells of_clause cache_by cache_of mark_of assigned from list_at lists_at literal_at literals_at cached saved finding_at filled proposal_answer proposal_left run_in step_in answer unsynced tabled adds known fitting load_tests put_lists table_at loaded_single loaded_union table_made requirement_of first_slot set_count list_count set_of cells_of examine queued_turn up_to mentions meets member all_false flattened first_that count_undecided frontier evaluate largest any_hot good admitted activity_with quiet activity_tests area at put put_run blank fresh_words all_from moved inserted every sweep old_entries new_entries touched_in touches_in wakes_at spoils_at woken_words spoiled_words swept_words copied_words mirrored_words sync_left loaded load_condition_tests leafed branched node_put literals_of load_version_set_tests assign_on assign_tests pushed cell_value cell_side cell_level cell_of decision_at level_at level_of_last entry_above popped undo_last_tests popped_to cleared no_stop undo_until_tests odd of_fields of_bits to_bits size climb span onward_of
 computed = (refl, refl)
 
 alone_say : each start alone ≡ map expected alone

@@ -11,7 +11,8 @@ use Rattle.rules.proofs.Map.{Grown}
 use Rattle.rules.specs.Store.{Reached}
 use Rattle.rules.specs.Sync.{Entry, value}
 use Rattle.store.proofs.AreaLaws.{area_same, at_same, within}
-use Rattle.store.specs.Area.{Area, area, at}
+use Rattle.store.specs.Area.{area, at}
+use Rattle.store.specs.declared.area.Area.{Area}
 use Rattle.store.specs.Layout.{clause_conditions, clause_count, clauses_region, disjunction_sizes, disjunction_starts, environment_region, literal_count, map, set_names, tables_loaded, tables_region, trail_region, union_sets, union_sizes}
 use Rattle.store.specs.Limits.{union_room, unions, version_sets}
 use Rattle.store.specs.Shape.{Sound}

@@ -17,7 +17,7 @@ use Rattle.promises.proofs.Genuine.{Genuine}
 use Rattle.promises.proofs.Registering.{register_is}
 use Rattle.promises.proofs.Starting.{fresh_genuine, fresh_is}
 use Rattle.imbolaverk.specs.Calls.{Call, fresh, load_version_set, load_union, load_candidates, load_disjunction, load_condition, register, mark_hot, set_activity, set_mode, assign, undo_last, undo_until, next_unpropagated, sync, propose, ReachedWords, left_by, run, ask}
-use Rattle.promises.specs.History.{filing, filings, history_of, if_made, if_registered}
+use Rattle.promises.specs.History.{filing, filings, history_of, if_done, if_done}
 use Rattle.promises.specs.Six.{SameClauses}
 use Rattle.requirement.specs.Tables.{key_at}
 use Rattle.rules.proofs.Ranks.{at-rank}
@@ -27,12 +27,12 @@ use Rattle.rules.specs.Position.{History, InPosition, SameHistory, filed, no_his
 use Rattle.rules.specs.Store.{Store}
 use Rattle.rules.proofs.Choice.{lt_or}
 use Rattle.store.proofs.Rows.{judged_clear}
-use Rattle.store.specs.declared.Made.TheVariants.{Done as MadeDone}
 use Rattle.store.specs.Row.{guarded, answer_any, left_any}
-use Rattle.store.specs.Area.{Area, at}
+use Rattle.store.specs.Area.{at}
+use Rattle.store.specs.declared.area.Area.{Area}
 use Rattle.store.specs.Fresh.{fresh_out, fresh_store, fresh_row}
 use Rattle.store.specs.Layout.{clause_conditions, clause_count, clause_ids, clause_parents, clause_requirements, words}
-use Rattle.clauses.specs.declared.Registered.TheVariants.{Done, Refused}
+use Rattle.std.specs.Prelude.{Ok, Err}
 
 -- WORDS FOLLOW A HISTORY if their clauses are, rank by rank, the registered ones by position
 abbrev Follows : List ℕ → History → Type 0
@@ -54,11 +54,11 @@ module _ (w : List ℕ) (long : words ≤ length w) where
   begins-follows : Follows (fresh_store w) no_history
   begins-follows = fresh_position (store_of (fresh_store w)) (fresh_is w long)
 
-  made-done : fresh_out w ≡ MadeDone
+  made-done : fresh_out w ≡ Ok tt
   unfolding fresh_row
   made-done = rw (le-leb words (length w) long)
 
-  fresh-follows : (h : History) → Follows (fresh_store w) (if_made (fresh_out w) no_history h)
+  fresh-follows : (h : History) → Follows (fresh_store w) (if_done (fresh_out w) no_history h)
   fresh-follows h = rw made-done begins-follows
 
 -- a registration is document 01's, which keeps the position order
@@ -70,11 +70,11 @@ module _ (w : List ℕ) (parent key condition clause : ℕ) (h : History) (g : G
       (register_position (store_of w) h parent key literals clause f)
 
 register_follows : (w : List ℕ) (parent kind requirement condition clause : ℕ) (h : History) → Genuine w → Follows w h →
-    Follows (left_any w (register_row w parent kind requirement condition clause)) (if_registered (answer_any w (register_row w parent kind requirement condition 0)) (filed h parent (key_at kind requirement) (literals_at w (condition_word condition)) clause) h)
+    Follows (left_any w (register_row w parent kind requirement condition clause)) (if_done (answer_any w (register_row w parent kind requirement condition 0)) (filed h parent (key_at kind requirement) (literals_at w (condition_word condition)) clause) h)
 register_follows w parent kind requirement condition clause h g f =
     let tests = register_tests w parent kind requirement condition in
-    judged-both (λ s r. Follows s (if_registered r (filed h parent (key_at kind requirement) (literals_at w (condition_word condition)) clause) h)) (λ n. w) Refused (guarded w tests) _ Done (λ n. f)
-    (λ p. registered-follows w parent (key_at kind requirement) condition clause h g f (done-placed w parent kind requirement condition (judged_clear Refused tests Done p.1)))
+    judged-both (λ s r. Follows s (if_done r (filed h parent (key_at kind requirement) (literals_at w (condition_word condition)) clause) h)) (λ e. w) Err (guarded w tests) _ (Ok tt) (λ e. f)
+    (λ p. registered-follows w parent (key_at kind requirement) condition clause h g f (done-placed w parent kind requirement condition (judged_clear Err tests (Ok tt) p.1)))
 
 -- every call
 call_follows : (w : List ℕ) (c : Call) (h : History) → Genuine w → Follows w h → Follows (left_by w c) (filing w c h)

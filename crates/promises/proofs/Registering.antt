@@ -27,11 +27,12 @@ use Rattle.rules.specs.Sync.{value}
 use Rattle.rules.specs.Walk.{is_true}
 use Rattle.store.proofs.AreaLaws.{at_same, within}
 use Rattle.rules.proofs.Choice.{eq_or, lt_or}
-use Rattle.store.specs.Area.{Area, apart, area, at}
+use Rattle.store.specs.Area.{apart, area, at}
+use Rattle.store.specs.declared.area.Area.{Area}
 use Rattle.store.specs.Layout.{activities, clause_conditions, clause_count, clause_ids, clause_parents, clause_requirements, clauses_region, disjunction_sizes, hot_names, mirror_region, mode, queued, settings_region, sync_floor, tables_region, trail_region}
 use Rattle.store.specs.Limits.{last_word, names}
 use Rattle.store.specs.Shape.{Sound, sound_shape}
-use Rattle.tables.specs.Answer.{loaded}
+use Rattle.tables.specs.Loaded.{loaded}
 use Rattle.trail.specs.Assignment.{assigned}
 use Rattle.store.specs.Row.{left_sound, left_any}
 

@@ -39,10 +39,9 @@ use Rattle.store.specs.Shape.{Sound, sound_shape}
 use Rattle.sync.proofs.Mirrored.{touches_are}
 use Rattle.sync.proofs.Standing.{sync-is}
 use Rattle.sync.specs.Sync.{touched_in, sync_row}
-use Rattle.proposal.specs.declared.Proposal.TheVariants.{Nothing as NoneOpen, Dead as DeadAt, Refused}
+use Rattle.proposal.specs.declared.Proposal.TheVariants.{Nothing as NoneOpen, Dead as DeadAt}
 use Rattle.rules.specs.declared.Out.{Out}
 use Rattle.rules.specs.declared.Out.TheVariants.{Nothing, Choose}
-use Rattle.sync.specs.declared.Synced.TheVariants.{Touches}
 use Rattle.trail.specs.Assignment.{assigned}
 use Rattle.rules.specs.Numbers.{from}
 use Rattle.rules.specs.declared.Finding.TheVariants.{Shut}
@@ -50,38 +49,40 @@ use Rattle.rules.specs.declared.Out.TheVariants as out
 use Rattle.rules.specs.declared.Finding.TheVariants as finding
 use Rattle.meaning.proofs.Lists.{length_mirror, length_trail}
 use Rattle.store.specs.Row.{answer_any, left_any}
+use Rattle.store.specs.declared.refusals.Refusal.TheVariants.{BadStore, Unsynced}
+use Rattle.std.specs.Prelude.{Ok, Err}
 
 -- 7: "a proposal is asked of an unsynced store", exactly
 pub unsynced_exactly : (w : List ℕ) → sound_shape w ≡ true → (number_of w propose ≡ 7) ↔ (unsynced w ≡ true)
 unfolding proposal_answer
 unsynced_exactly w h = rw (← propose-told w, h) (go (unsynced w))
   where
-    other : (o : Out) (d : ℕ) → proposal_number (told w o d) ≢ 7
+    other : (o : Out) (d : ℕ) → proposal_number (Ok (told w o d)) ≢ 7
     other Nothing d e = omega (arith, e)
     other (out.Dead c) d e = omega (arith, e)
     other (Choose b) d e = omega (arith, e)
 
-    go : (b : Bool) → (proposal_number (cond b (Refused 7) (told w (answer w).out (answer w).drops)) ≡ 7) ↔ (b ≡ true)
+    go : (b : Bool) → (proposal_number (cond b (Err Unsynced) (Ok (told w (answer w).out (answer w).drops))) ≡ 7) ↔ (b ≡ true)
     go true = (λ e. refl, λ e. refl)
     go false = (λ e. absurd (other (answer w).out (answer w).drops e), λ e. absurd (true_false (sym e)))
 
 module _ (w : List ℕ) (r : ReachedWords w) where
   module _ (u : unsynced w ≡ false) where
     -- the proposal, drop count aside, is what the walk's answer tells
-    as-walked : (o : Out) → walk (env_of w) (assigned w) ≡ o → undropped (answer_any w (proposal_row w)) ≡ undropped (told w o 0)
+    as-walked : (o : Out) → walk (env_of w) (assigned w) ≡ o → undropped (answer_any w (proposal_row w)) ≡ undropped (Ok (told w o 0))
     as-walked o e = rw (demand2 w r u, e) (aside o (answer w).drops)
       where
-        aside : (p : Out) (d : ℕ) → undropped (told w p d) ≡ undropped (told w p 0)
+        aside : (p : Out) (d : ℕ) → undropped (Ok (told w p d)) ≡ undropped (Ok (told w p 0))
         aside Nothing d = refl
         aside (out.Dead c) d = refl
         aside (Choose b) d = refl
 
     -- "nothing is answered exactly when no clause is open"
-    pub nothing_exactly : (undropped (answer_any w (proposal_row w)) ≡ NoneOpen 0) ↔ ((k : ℕ) → k < at clause_count 0 w → look (env_of w) (assigned w) k ≡ Shut)
+    pub nothing_exactly : (undropped (answer_any w (proposal_row w)) ≡ Ok (NoneOpen 0)) ↔ ((k : ℕ) → k < at clause_count 0 w → look (env_of w) (assigned w) k ≡ Shut)
     nothing_exactly =
         (λ e. (nothing_iff (env_of w) (assigned w)).0 (back (walk (env_of w) (assigned w)) (sym (as-walked _ refl) ∙ e)), λ h. as-walked Nothing ((nothing_iff (env_of w) (assigned w)).1 h))
       where
-        back : (o : Out) → undropped (told w o 0) ≡ NoneOpen 0 → o ≡ Nothing
+        back : (o : Out) → undropped (Ok (told w o 0)) ≡ Ok (NoneOpen 0) → o ≡ Nothing
         back Nothing e = refl
         back (out.Dead c) e = cc
         back (Choose b) e = cc
@@ -90,11 +91,11 @@ module _ (w : List ℕ) (r : ReachedWords w) where
     dies clause = walk_dies (env_of w) (assigned w) clause
 
     -- "A dead clause examined is refusal 8", "its clause id comes too"
-    pub dead_exactly : (clause : ℕ) → (undropped (answer_any w (proposal_row w)) ≡ DeadAt clause 0) ↔ Dies w clause
+    pub dead_exactly : (clause : ℕ) → (undropped (answer_any w (proposal_row w)) ≡ Ok (DeadAt clause 0)) ↔ Dies w clause
     dead_exactly clause =
         (λ e. (dies clause).0 (back (walk (env_of w) (assigned w)) (sym (as-walked _ refl) ∙ e)), λ d. as-walked (out.Dead clause) ((dies clause).1 d))
       where
-        back : (o : Out) → undropped (told w o 0) ≡ DeadAt clause 0 → o ≡ out.Dead clause
+        back : (o : Out) → undropped (Ok (told w o 0)) ≡ Ok (DeadAt clause 0) → o ≡ out.Dead clause
         back Nothing e = cc
         back (out.Dead c) e = cc
         back (Choose b) e = cc
@@ -103,7 +104,7 @@ module _ (w : List ℕ) (r : ReachedWords w) where
     pub eight_exactly : (number_of w propose ≡ 8) ↔ ((clause : ℕ) × Dies w clause)
     eight_exactly = rw (← propose-told w) (λ e. back (walk (env_of w) (assigned w)) refl (sym (ap proposal_number (demand2 w r u)) ∙ e), λ d. rw (demand2 w r u, (dies d.0).1 d.1))
       where
-        back : (o : Out) → walk (env_of w) (assigned w) ≡ o → proposal_number (told w o (answer w).drops) ≡ 8 → (clause : ℕ) × Dies w clause
+        back : (o : Out) → walk (env_of w) (assigned w) ≡ o → proposal_number (Ok (told w o (answer w).drops)) ≡ 8 → (clause : ℕ) × Dies w clause
         back Nothing q e = absurd (omega (arith, e))
         back (out.Dead c) q e = (c, (dies c).0 q)
         back (Choose b) q e = absurd (omega (arith, e))
@@ -116,7 +117,7 @@ module _ (w : List ℕ) (r : ReachedWords w) where
         (ap (λ (q : Queue). q.mark k) (answer_along w (reached_genuine w r).sound).2.0 ∙ walk_leaves (env_of w) (assigned w) (queue_of w) (reached-holds w r u) k)
 
   -- "touches are the mirror's length plus the trail's, less twice the floor"
-  pub touches_are_counted : answer_any w (sync_row w) ≡ Touches (at mirror_length 0 w + at trail_length 0 w - 2 * at sync_floor 0 w)
+  pub touches_are_counted : answer_any w (sync_row w) ≡ Ok (at mirror_length 0 w + at trail_length 0 w - 2 * at sync_floor 0 w)
   touches_are_counted =
       let h = (reached_genuine w r).sound in
       rw (reached-sound w r, touches_are w h, length_mirror w h, length_trail w)
@@ -131,12 +132,12 @@ pub drops_are_counted : (w : List ℕ) → queue_size w ≡ queue_size (left_any
 unfolding proposal_answer proposal_left
 drops_are_counted w = go (sound_shape w) (unsynced w) refl
   where
-    dropped : (o : Out) (d : ℕ) → drops_of (told w o d) ≡ d
+    dropped : (o : Out) (d : ℕ) → drops_of (Ok (told w o d)) ≡ d
     dropped Nothing d = refl
     dropped (out.Dead c) d = refl
     dropped (Choose b) d = refl
 
-    walked : Sound w → queue_size w ≡ queue_size (answer w).left + drops_of (told w (answer w).out (answer w).drops)
+    walked : Sound w → queue_size w ≡ queue_size (answer w).left + drops_of (Ok (told w (answer w).out (answer w).drops))
     walked h =
         let along = answer_along w h in
         let left = ap (λ (q : Queue). tally q.mark (at clause_count 0 w)) along.2.0 in
@@ -144,7 +145,7 @@ drops_are_counted w = go (sound_shape w) (unsynced w) refl
         omega (arith, left, same, along.1, dropped (answer w).out (answer w).drops, drops-of (env_of w) (assigned w) (queue_of w))
 
     go : (b c : Bool) → sound_shape w ≡ b →
-        queue_size w ≡ queue_size (cond (not b) w (cond c w (answer w).left)) + drops_of (cond (not b) (Refused 1) (cond c (Refused 7) (told w (answer w).out (answer w).drops)))
+        queue_size w ≡ queue_size (cond (not b) w (cond c w (answer w).left)) + drops_of (cond (not b) (Err BadStore) (cond c (Err Unsynced) (Ok (told w (answer w).out (answer w).drops))))
     go true true e = omega arith
     go true false e = walked (sound_facts w e)
     go false c e = omega arith

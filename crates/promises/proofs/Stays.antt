@@ -18,7 +18,8 @@ use Rattle.rules.specs.Store.{Reached, changed, loaded, relisted, remade}
 use Rattle.rules.specs.Walk.{CandidateList}
 use Rattle.store.proofs.AreaLaws.{area_same, at-past, at_same, within}
 use Rattle.rules.proofs.Choice.{eq_or, lt_or}
-use Rattle.store.specs.Area.{Area, area, at, apart}
+use Rattle.store.specs.Area.{area, at, apart}
+use Rattle.store.specs.declared.area.Area.{Area}
 use Rattle.store.specs.Layout.{activities, candidates, clause_conditions, clause_count, clause_ids, clause_parents, clause_requirements, disjunction_sizes, disjunction_starts, hot_names, list_lengths, list_starts, literal_count, literal_signs, literal_variables, mirror_region, mode, queue_region, region, set_names, sync_floor, tables_loaded, tables_region, trail_region, union_sets, union_sizes}
 use Rattle.store.specs.Limits.{names, requirements, union_room, unions, version_sets}
 use Rattle.store.specs.Shape.{Sound}

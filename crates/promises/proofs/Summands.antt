@@ -20,7 +20,8 @@ use Rattle.promises.specs.Totals.{condition_named, over_clauses, stored_literals
 use Rattle.requirement.specs.Tables.{first_slot, name_of, set_count, set_of}
 use Rattle.store.proofs.AreaLaws.{at_same, within}
 use Rattle.rules.proofs.Choice.{eq_or, lt_or}
-use Rattle.store.specs.Area.{Area, area, at}
+use Rattle.store.specs.Area.{area, at}
+use Rattle.store.specs.declared.area.Area.{Area}
 use Rattle.store.specs.Layout.{clause_count, disjunction_sizes, set_names, tables_loaded, tables_region, union_sets, union_sizes}
 use Rattle.store.specs.Limits.{disjunctions, last_word, version_sets}
 use Rattle.rules.specs.Numbers.{all_from}

@@ -15,7 +15,8 @@ use Rattle.promises.proofs.Trails.{mapped-none, mapped-popped, mapped-pushed, tr
 use Rattle.rules.specs.Store.{Reached, Step, Store, push, same, then, undo}
 use Rattle.rules.specs.Sync.{Entry, value_of}
 use Rattle.store.proofs.AreaLaws.{apart-inside, area_kept, at_kept, at-puts_else, at-puts-here, at_same}
-use Rattle.store.specs.Area.{Area, Inside, Write, apart, area, at, put, write}
+use Rattle.store.specs.Area.{Inside, Write, apart, area, at, put, write}
+use Rattle.store.specs.declared.area.Area.{Area}
 use Rattle.store.specs.Layout.{clause_count, environment_region, map, mirror_region, propagated, queue_region, sync_floor, trail_clauses, trail_length, trail_region, trail_values, trail_variables, words}
 use Rattle.store.specs.Limits.{last_level}
 use Rattle.store.specs.Shape.{Sound}

@@ -1,4 +1,5 @@
 -- THE PROPOSAL ASKS THE STATED WORDS ALONE: two slices that agree on them are walked alike, step by step, and left alike there. Assumes nothing.
+use Rattle.std.specs.Prelude.{Option, Some, None}
 use mathlib.Core.Bool.{not}
 use mathlib.Core.List.{List}
 use mathlib.Core.Path.{◌≡◌, refl, ap, subst}
@@ -16,8 +17,6 @@ use Rattle.rules.specs.Queue.{Answer, queued_walk}
 use Rattle.store.specs.Codes.{frontier, satisfied}
 use Rattle.store.specs.Layout.{clause_count, clause_ids, clause_parents, clause_requirements, clauses_region, environment_region, map, queue_region, queued, tables_region}
 use Rattle.store.specs.Shape.{sound_shape}
-use Rattle.rules.specs.declared.Cache.{Cache}
-use Rattle.rules.specs.declared.Cache.TheVariants.{Dirty, Known}
 use Rattle.rules.specs.declared.State.{State}
 use Rattle.rules.specs.declared.State.TheVariants.{Satisfied, Frontier}
 use Rattle.rules.specs.declared.Out.{Out}
@@ -34,9 +33,9 @@ saved_alike key (Satisfied x) w u e = puts_alike (cache_writes key satisfied x 0
 saved_alike key (Frontier x n m) w u e = puts_alike (cache_writes key frontier x n m) w u e
 saved_alike key state.Dead w u e = e
 
-refreshed_alike : (key : ℕ) (c : Cache) (t : State) (w u : List ℕ) → Alike w u → Alike (refreshed w key c t) (refreshed u key c t)
-refreshed_alike key Dirty t w u e = saved_alike key t w u e
-refreshed_alike key (Known s) t w u e = e
+refreshed_alike : (key : ℕ) (c : (Option State)) (t : State) (w u : List ℕ) → Alike w u → Alike (refreshed w key c t) (refreshed u key c t)
+refreshed_alike key None t w u e = saved_alike key t w u e
+refreshed_alike key (Some s) t w u e = e
 
 -- they stand for the same clauses, tables and settings, the same assignment and the same queue
 module _ (w u : List ℕ) (e : Alike w u) where

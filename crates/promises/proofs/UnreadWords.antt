@@ -4,15 +4,16 @@ use mathlib.Core.List.{List, [], ◌∷◌}
 use mathlib.Core.Logic.{⊎_elim}
 use mathlib.Core.Path.{◌≡◌, refl, sym, ap, ◌∙◌}
 use Prim.Native.Nat.{ℕ, zero, suc, ◌+◌, ◌-◌, ◌≤◌, ◌<◌, min}
-use native.Mathlib.Numerals.{add-one}
 use native.Mathlib.Omega.{arith}
 use borrow.Author.Tests.{leb-true, leb-false, le-leb, lt-leb}
 use lib.Dec.{leb}
-use lib.ListN.{length, take, set, length-take}
-use lib.Seq.{take-set-le, take-set-lt}
-use Rattle.store.proofs.AreaLaws.{area_same, at_same, blank_none, blank_turn, within}
+use lib.ListN.{length, length-replicate, length-take, replicate, set, take}
+use lib.Seq.{sets, sets-eq, take-set-le, take-set-lt}
+use Rattle.std.proofs.Common.{append_assoc}
+use Rattle.store.proofs.AreaLaws.{area_same, at_same, within}
 use Rattle.rules.proofs.Choice.{lt_or, of_true}
-use Rattle.store.specs.Area.{Area, Write, area, at, blank, put, put_run, puts}
+use Rattle.store.specs.Area.{Fits, Write, area, at, blank, put, put_run, puts}
+use Rattle.store.specs.declared.area.Area.{Area}
 use Rattle.store.specs.Fresh.{whole}
 use Rattle.store.specs.Layout.{map, table, words}
 use Rattle.store.specs.Ranks.{inserted, moved}
@@ -59,19 +60,22 @@ unfolding put_run
 run_alike a i [] w u e = e
 run_alike a i (x ∷ xs) w u e = run_alike a (i + 1) xs (put a i x w) (put a i x u) (put_alike a i x w u e)
 
--- a blanked area, word by word
-abbrev run : ℕ → ℕ → Area
-run b n = record { base = b; size = n }
+-- a blanked area
+sets_by : (n k : ℕ) (xs w u : List ℕ) → take n w ≡ take n u → take n (sets w k xs) ≡ take n (sets u k xs)
+sets_by n k [] w u e = e
+sets_by n k (x ∷ xs) w u e = sets_by n (suc k) xs (set w k x) (set u k x) (set_by n k x w u e)
 
-blank_next : (b n : ℕ) (w : List ℕ) → b + n < length w → put (run b (suc n)) n 0 (blank (run b n) w) ≡ blank (run b (suc n)) w
-unfolding put
-blank_next b n w h = blank_turn b n w (blank (run b n) w) refl h ∙ ap (λ k. blank (run b k) w) (add-one n)
+blank_is : (a : Area) (w : List ℕ) → Fits a w → blank a w ≡ sets w a.base (replicate a.size 0)
+unfolding blank
+blank_is a w h =
+    let zeros : List ℕ = replicate a.size 0 in
+    let n : length zeros ≡ a.size = length-replicate a.size 0 in
+    let e = sets-eq {A = ℕ} zeros w a.base (omega arith) in
+    sym (e ∙ append_assoc (take a.base w) zeros _ ∙ rw n refl)
 
-pub blank_alike : (b n : ℕ) (w u : List ℕ) → b + n ≤ length w → b + n ≤ length u → Alike w u → Alike (blank (run b n) w) (blank (run b n) u)
-blank_alike b zero w u h l e = rw (← blank_none b w, ← blank_none b u) e
-blank_alike b (suc n) w u h l e =
-    rw (← blank_next b n w (omega arith), ← blank_next b n u (omega arith))
-    (put_alike (run b (suc n)) n 0 (blank (run b n) w) (blank (run b n) u) (blank_alike b n w u (omega arith) (omega arith) e))
+pub blank_alike : (a : Area) (w u : List ℕ) → Fits a w → Fits a u → Alike w u → Alike (blank a w) (blank a u)
+unfolding area
+blank_alike a w u h l e = rw (blank_is a w h, blank_is a u l) (sets_by words a.base (replicate a.size 0) w u e)
 
 -- one of two, by a test
 pub either_alike : (b : Bool) (s t v x : List ℕ) → Alike s t → Alike v x → Alike (cond b s v) (cond b t x)

@@ -1,12 +1,13 @@
 -- THE SIX THINGS of demand 3: clauses, tables, activities, hot names, mode and present assignments; and a proposal with the "drop count
 -- aside".
-use Rattle.std.specs.Prelude.{List, ◌≡◌, ℕ}
+use Rattle.std.specs.Prelude.{List, ◌≡◌, ℕ, Result, Ok, Err}
 use Rattle.meaning.specs.Standing.{of_clause}
 use Rattle.meaning.specs.View.{lists_at, literals_at}
 use Rattle.store.specs.Area.{at}
 use Rattle.store.specs.Layout.{activities, clause_conditions, clause_count, clause_ids, clause_parents, clause_requirements, hot_names, mode}
 use Rattle.proposal.specs.declared.Proposal.{Proposal}
-use Rattle.proposal.specs.declared.Proposal.TheVariants.{Choose as Chosen, Nothing as NoneOpen, Dead as DeadAt, Refused}
+use Rattle.proposal.specs.declared.Proposal.TheVariants.{Choose as Chosen, Nothing as NoneOpen, Dead as DeadAt}
+use Rattle.store.specs.declared.refusals.Refusal.{Refusal}
 use Rattle.trail.specs.Assignment.{assigned}
 
 -- the same clauses, rank by rank; a clause's condition by its literals, its parent, requirement and id by their numbers
@@ -31,8 +32,8 @@ pub record SameSix (w u : List ℕ) : Type 0 where
   pub mode_same : at mode 0 w ≡ at mode 0 u
 
 -- "drop count aside"
-abbrev pub undropped : Proposal → Proposal
-undropped (Chosen candidate parent clause activity count dropped) = Chosen candidate parent clause activity count 0
-undropped (NoneOpen dropped) = NoneOpen 0
-undropped (DeadAt clause dropped) = DeadAt clause 0
-undropped (Refused n) = Refused n
+abbrev pub undropped : Result Proposal Refusal → Result Proposal Refusal
+undropped (Ok (Chosen candidate parent clause activity count dropped)) = Ok (Chosen candidate parent clause activity count 0)
+undropped (Ok (NoneOpen dropped)) = Ok (NoneOpen 0)
+undropped (Ok (DeadAt clause dropped)) = Ok (DeadAt clause 0)
+undropped (Err e) = Err e

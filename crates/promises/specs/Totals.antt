@@ -3,7 +3,8 @@
 use Rattle.std.specs.Prelude.{cond, List, ℕ, zero, suc, ◌+◌, ◌-◌, eqb}
 use Rattle.clauses.specs.Names.{distinct_names}
 use Rattle.clauses.specs.Register.{literal_count_of}
-use Rattle.store.specs.Area.{Area, at}
+use Rattle.store.specs.Area.{at}
+use Rattle.store.specs.declared.area.Area.{Area}
 use Rattle.store.specs.Codes.{no_condition}
 use Rattle.store.specs.Layout.{clause_conditions, clause_count, clause_requirements}
 

@@ -2,7 +2,7 @@
 use Rattle.std.specs.Prelude.{List, [], ◌∷◌, ◌≡◌, ℕ, ◌≤◌}
 use Rattle.imbolaverk.specs.Calls.{Call, left_by}
 use Rattle.promises.specs.Regions.{ApartAll, writes_in}
-use Rattle.store.specs.Area.{Area}
+use Rattle.store.specs.declared.area.Area.{Area}
 use Rattle.store.specs.Layout.{environment_region, region, trail_length, trail_values}
 use Rattle.trail.specs.Entries.{entries}
 

@@ -27,40 +27,17 @@ use Rattle.rules.specs.declared.Finding.TheVariants as finding
 use Rattle.proposal.specs.declared.decide_queue.Weighed.TheVariants.{On, Enough}
 use Rattle.proposal.specs.declared.decide_queue.Weighed.TheVariants as weighing
 
--- what a weighing says, by what is found
-module _ (w : List ℕ) (b : Best) (rank : ℕ) where
-  pub weigh_stopped : stops_at w b ≡ true → (Enough ≡ weigh_of w b rank) × (w ≡ weighed w b rank)
-  unfolding weigh_of weighed
-  weigh_stopped t = (rw t, rw t)
+-- what a weighing says where a clause is found open
+module _ (w : List ℕ) (b : Best) (rank : ℕ) (t : stops_at w b ≡ false) (k : ℕ) (is : k ≡ rank) (p : passed_at w b k ≡ false) (s : List ℕ) (q : s ≡ examined w k) (ok : Sound w) (l : rank < at clause_count 0 w) where
+  pub examined-beside : Beside s w
+  examined-beside = rw (q, is) (beside-examined w w (beside_self w ok) rank l)
 
-  module _ (t : stops_at w b ≡ false) (k : ℕ) (is : k ≡ rank) where
-    pub weigh_passed : passed_at w b k ≡ true → (On b 0 ≡ weigh_of w b rank) × (w ≡ weighed w b rank)
-    unfolding weigh_of weighed
-    weigh_passed p = (rw (← is, t, p), rw (← is, t, p))
-
-    module _ (p : passed_at w b k ≡ false) (s : List ℕ) (q : s ≡ examined w k) where
-      weighed-left : s ≡ weighed w b rank
-      unfolding weighed
-      weighed-left = q ∙ rw (← is, t, p)
-
-      pub weigh_shut : finding_at w k ≡ Shut → (On b 1 ≡ weigh_of w b rank) × (s ≡ weighed w b rank)
-      unfolding weigh_of
-      weigh_shut h = (rw (← is, t, p, h), weighed-left)
-
-      pub weigh_dead : finding_at w k ≡ finding.Dead → (weighing.Dead ≡ weigh_of w b rank) × (s ≡ weighed w b rank)
-      unfolding weigh_of
-      weigh_dead h = (rw (← is, t, p, h), weighed-left)
-
-      module _ (ok : Sound w) (l : rank < at clause_count 0 w) where
-        pub examined-beside : Beside s w
-        examined-beside = rw (q, is) (beside-examined w w (beside_self w ok) rank l)
-
-        pub weigh_open : (d e : Best) (x n c : ℕ) → finding_at w k ≡ Open x n c → d ≡ best_at s rank x n c → e ≡ better 1 b d → (On e 0 ≡ weigh_of w b rank) × (s ≡ weighed w b rank)
-        unfolding weigh_of best_at
-        weigh_open d e x n c h z y =
-            let a : at activities n s ≡ at activities n w = at-beside s w examined-beside activities tt n in
-            let f : e ≡ better 1 b (best_at w rank x n c) = y ∙ ap (better 1 b) (z ∙ rw a) in
-            (rw (f, ← is, t, p, h), weighed-left)
+  pub weigh_open : (d e : Best) (x n c : ℕ) → finding_at w k ≡ Open x n c → d ≡ best_at s rank x n c → e ≡ better 1 b d → On e 0 ≡ weigh_of w b rank
+  unfolding weigh_of best_at
+  weigh_open d e x n c h z y =
+      let a : at activities n s ≡ at activities n w = at-beside s w examined-beside activities tt n in
+      let f : e ≡ better 1 b (best_at w rank x n c) = y ∙ ap (better 1 b) (z ∙ rw a) in
+      rw (f, ← is, t, p, h)
 
 -- the largest activity is the same in a store beside
 pub top_same : (s w : List ℕ) → Beside s w → top_at s ≡ top_at w

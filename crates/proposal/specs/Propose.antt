@@ -1,5 +1,8 @@
 -- The proposal at the words: the walk over the queued clauses, its answer as document 01 gives it, and the words that it leaves.
-use Rattle.std.specs.Prelude.{Bool, true, false, not, ◌||◌, ◌≡◌, ℕ, ◌-◌, T, ltb}
+use Rattle.store.specs.declared.refusals.Refusal.{Refusal}
+use Rattle.store.specs.declared.refusals.Refusal.TheVariants.{Unsynced, DeadClause}
+use Rattle.store.specs.Refusals.{number}
+use Rattle.std.specs.Prelude.{Result, Ok, Err, Bool, true, false, not, ◌||◌, ◌≡◌, ℕ, ◌-◌, T, ltb}
 use mathlib.Core.List.{List, [], ◌∷◌, foldl}
 use Rattle.std.specs.Float.{binary32}
 use Rattle.std.specs.Float.Ieee.{is_nan, of_bits, to_bits}
@@ -13,13 +16,12 @@ use Rattle.store.specs.Area.{at}
 use Rattle.store.specs.Layout.{clause_count, clause_ids, clause_parents, mirror_length}
 use Rattle.trail.specs.Assignment.{floor_of}
 use Rattle.trail.specs.Entries.{entries}
-use Rattle.store.specs.Refusals.{dead_clause, not_synced}
 use Rattle.store.specs.Row.{Row, ◌if◌}
 use Rattle.rules.specs.declared.Best.{Best}
 use Rattle.rules.specs.declared.Out.{Out}
 use Rattle.rules.specs.declared.Out.TheVariants.{Nothing, Choose}
 use Rattle.proposal.specs.declared.Proposal.{Proposal}
-use Rattle.proposal.specs.declared.Proposal.TheVariants.{Choose as Chosen, Nothing as NoneOpen, Refused}
+use Rattle.proposal.specs.declared.Proposal.TheVariants.{Choose as Chosen, Nothing as NoneOpen}
 use Rattle.proposal.specs.declared.Proposal.TheVariants as proposal
 use Rattle.proposal.specs.declared.decide_queue.Walked.{Walked}
 use Rattle.rules.specs.declared.Out.TheVariants as out
@@ -68,7 +70,6 @@ abbrev pub Numbered : Proposal → Type 0
 Numbered (Chosen candidate parent clause activity count dropped) = T (not (is_nan activity))
 Numbered (NoneOpen dropped) = Unit {0}
 Numbered (proposal.Dead clause dropped) = Unit {0}
-Numbered (Refused n) = Unit {0}
 
 -- on a store of sound shape
 unfoldable pub proposal_answer : List ℕ → Proposal
@@ -84,21 +85,20 @@ unsynced w = ltb (floor_of w) (at mirror_length 0 w) || ltb (at mirror_length 0 
 
 -- the call; 7: "a proposal is asked of an unsynced store"
 abbrev pub proposal_row : List ℕ → Row Proposal
-proposal_row w = record { refused = Refused; tests = not_synced if unsynced w ∷ []; answer = proposal_answer w; left = proposal_left w }
+proposal_row w = record { tests = Unsynced if unsynced w ∷ []; answer = proposal_answer w; left = proposal_left w }
 
 -- whether the walk ended at a dead clause
 abbrev pub is_dead : Proposal → Bool
 is_dead (proposal.Dead clause dropped) = true
 is_dead (Chosen candidate parent clause activity count dropped) = false
 is_dead (NoneOpen dropped) = false
-is_dead (Refused n) = false
 
 -- the answer's number in document 01; a dead clause is 8
-abbrev pub proposal_number : Proposal → ℕ
-proposal_number (Chosen candidate parent clause activity count dropped) = 0
-proposal_number (NoneOpen dropped) = 0
-proposal_number (proposal.Dead clause dropped) = dead_clause
-proposal_number (Refused n) = n
+abbrev pub proposal_number : Result Proposal Refusal → ℕ
+proposal_number (Ok (Chosen candidate parent clause activity count dropped)) = 0
+proposal_number (Ok (NoneOpen dropped)) = 0
+proposal_number (Ok (proposal.Dead clause dropped)) = number DeadClause
+proposal_number (Err e) = number e
 
 -- its values. Chosen: 1, the candidate, its parent and clause id, the activity's bits, the count, the drops; nothing: 0, the drops; dead: its
 -- clause id, the drops
@@ -106,4 +106,3 @@ abbrev pub proposal_values : Proposal → List ℕ
 proposal_values (Chosen candidate parent clause activity count dropped) = 1 ∷ candidate ∷ parent ∷ clause ∷ to_bits binary32 activity ∷ count ∷ dropped ∷ []
 proposal_values (NoneOpen dropped) = 0 ∷ dropped ∷ []
 proposal_values (proposal.Dead clause dropped) = clause ∷ dropped ∷ []
-proposal_values (Refused n) = []

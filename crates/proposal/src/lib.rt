@@ -2,16 +2,17 @@
 
 #![tactic(auto)]
 
-ghost use Rattle.std.specs.Prelude.{◌≡◌, ◌≤◌, length};
+ghost use Rattle.std.specs.Prelude.{◌≡◌, ◌≤◌, length, IfOk};
 ghost use Rattle.store.specs.Layout.{words};
 ghost use Rattle.proposal.specs.Propose.{Numbered, unsynced, proposal_row};
 ghost use Rattle.store.specs.Row.{answer_any, left_any};
 
-use store::{read, refusals, shape};
+use store::{Refusal, areas, shape};
 use trail::entries;
 
 pub mod decide_queue;
 
+// What a proposal tells. A dead clause is no `Err`: it alone of the refusals leaves what the walk did, and tells a clause and a count.
 #[derive(Clone, Copy)]
 pub enum Proposal {
     Choose {
@@ -31,30 +32,27 @@ pub enum Proposal {
         clause: u32,
         dropped: u32,
     },
-    Refused(u32),
 }
 
 // Whether the trail has moved since the last sync.
+#[tactic(auto, unfolding(crate::specs::Propose::unsynced))]
 fn is_unsynced(s: &[u32]) -> bool
     requires { words ≤ length s.now }
     ensures { result ≡ unsynced s.now }
 {
-    let mirrored = read::mirror_length(s);
-    if entries::floor(s) < mirrored {
-        return true;
-    }
-    mirrored < entries::length(s)
+    let mirrored = areas::MIRROR_LENGTH.at(s, 0);
+    entries::floor(s) < mirrored || mirrored < entries::length(s)
 }
 
 // Proposes the candidate to decide next.
-pub fn propose(s: &mut [u32]) -> Proposal
-    ensures { (result ≡ answer_any s.old (proposal_row s.old)) × (s.new ≡ left_any s.old (proposal_row s.old)) × (Numbered result) }
+pub fn propose(s: &mut [u32]) -> Result<Proposal, Refusal>
+    ensures answer { result ≡ answer_any s.old (proposal_row s.old) }
+    ensures left { s.new ≡ left_any s.old (proposal_row s.old) }
+    ensures numbered { IfOk result Numbered }
 {
-    if shape::sound(s) {
-        if is_unsynced(s) {
-            return Proposal::Refused(refusals::UNSYNCED);
-        }
-        return decide_queue::propose(s);
+    shape::check(s)?;
+    if is_unsynced(s) {
+        return Err(Refusal::Unsynced);
     }
-    Proposal::Refused(refusals::BAD_STORE)
+    Ok(decide_queue::propose(s))
 }

@@ -3,7 +3,6 @@ use mathlib.Core.Bool.{true, false, ◌&&◌}
 use mathlib.Core.List.{List, [], ◌∷◌}
 use mathlib.Core.Path.{◌≡◌, sym, ap, ◌∙◌}
 use Prim.Native.Nat.{ℕ, suc, ◌+◌, ◌-◌, ◌≤◌, ◌<◌}
-use native.Mathlib.Nat.{add-zero}
 use native.Mathlib.Numerals.{add-one}
 use native.Mathlib.Omega.{arith}
 use borrow.Author.Tests.{leb-true, eqb-true, le-leb, lt-leb}
@@ -58,5 +57,6 @@ module _ (slot start : ℕ) (l w : List ℕ) (j place : ℕ) (s : List ℕ) (so 
   unfolding put_lists
   lists-done h = sym (so ∙ rw (drop_of_length-le l {i = j} h))
 
-pub lists-start : (slot start : ℕ) (l w : List ℕ) → put_lists slot start l w ≡ put_lists (slot + 0) start (drop 0 l) w
-lists-start slot start l w = rw (add-zero slot)
+pub ruleset by_adding = (adds_fails, adds_more, adds_ends)
+
+pub ruleset by_turns = (total-turn, lists-turn, lists-done)

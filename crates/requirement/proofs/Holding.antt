@@ -13,7 +13,8 @@ use Rattle.requirement.specs.Tables.{first_slot}
 use Rattle.store.proofs.AreaLaws.{length_put, at-put-same, at-put_else, area_kept, at_kept}
 use Rattle.store.proofs.Runs.{length_run, area-run_kept, at-run_kept, at-run-before, at-run-behind, at-run, ranged-run}
 use Rattle.store.proofs.Soundness.{ranged-put}
-use Rattle.store.specs.Area.{Area, area, at, put, put_run, apart}
+use Rattle.store.specs.declared.area.Area.{Area}
+use Rattle.store.specs.Area.{area, at, put, put_run, apart}
 use Rattle.store.specs.Layout.{union_sizes, tables_loaded, list_starts, list_lengths, candidates, words}
 use Rattle.store.specs.Limits.{cell_room, last_variable}
 use Rattle.store.specs.Shape.{every, up_to, Ranged}

@@ -1,5 +1,6 @@
 pub mod Adding
 pub mod Copying
+pub mod Decoding
 pub mod Holding
 pub mod Kept
 pub mod ListLaws

@@ -9,7 +9,8 @@ use lib.ListN.{length, get_or, take}
 use Rattle.requirement.specs.Load.{total, put_lists}
 use Rattle.store.proofs.AreaLaws.{length_put, at-put-same, at-put_else, area_kept, at_kept}
 use Rattle.store.proofs.Soundness.{ranged-put}
-use Rattle.store.specs.Area.{Area, area, at, put, apart}
+use Rattle.store.specs.declared.area.Area.{Area}
+use Rattle.store.specs.Area.{area, at, put, apart}
 use Rattle.store.specs.Layout.{list_starts, list_lengths, words}
 use Rattle.store.specs.Limits.{cell_room, lists}
 use Rattle.store.specs.Shape.{Ranged}

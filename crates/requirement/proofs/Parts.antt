@@ -2,49 +2,25 @@
 use mathlib.Core.Bool.{Bool, true, false, cond}
 use mathlib.Core.List.{List}
 use mathlib.Core.Logic.{⊎_elim}
-use mathlib.Core.Path.{◌≡◌, refl, sym, ◌∙◌}
+use mathlib.Core.Path.{◌≡◌, refl, ◌∙◌}
 use Prim.Native.Nat.{ℕ, ◌+◌, ◌-◌, ◌*◌, ◌≤◌, ◌<◌}
 use native.Mathlib.Omega.{arith}
 use borrow.Author.Tests.{eqb-true, eqb-false, lt-ltb, le-ltb, ne_eqb}
-use lib.Dec.{T, eqb, le→leb, leb→le}
+use lib.Dec.{T, eqb, le→leb}
 use lib.ListN.{length, take, drop, length-drop}
-use lib.Seq.{take-take, drop-drop, length-take-le}
+use lib.Seq.{drop-drop, length-take-le}
 use Rattle.requirement.proofs.Spans.{lies_facts, single_lies, union_lies}
-use Rattle.requirement.proofs.ListParts.{drop_take}
 use Rattle.requirement.proofs.Views.{listed-sets}
-use Rattle.requirement.specs.Part.{area_of, in_part, part_of, Named, single_area, union_area, area_from, area_to, place_of}
+use Rattle.requirement.specs.Part.{in_part, part_of, Named, single_area, union_area, area_from, area_to, place_of}
 use Rattle.requirement.specs.Tables.{key_of, first_slot, set_count, list_count, cells_of}
 use Rattle.store.proofs.AreaLaws.{length_area, part-of_take}
 use Rattle.rules.proofs.Choice.{eq_or}
 use Rattle.store.specs.Area.{area, at}
-use Rattle.store.specs.Layout.{union_sizes, list_starts, list_lengths, single_cells, union_cells, candidates}
+use Rattle.store.specs.Layout.{union_sizes, list_starts, list_lengths, single_cells, candidates}
 use Rattle.store.specs.Limits.{version_sets, union_room, cell_room, requirements, lists, most_union_size}
 use Rattle.store.specs.Shape.{lies, unions_from, Sound}
 use Rattle.requirement.specs.declared.Requirement.{Requirement}
 use Rattle.requirement.specs.declared.Requirement.TheVariants.{Single, Union}
-
-pub part-is : (l : List ℕ) (start len : ℕ) → take (start + len - start) (drop start l) ≡ take len (drop start l)
-part-is l start len =
-    let e : start + len - start ≡ len = omega arith in
-    rw e
-
-pub part_room : (r : Requirement) (below above : List ℕ) (start len : ℕ) → T (in_part r below above start len) → start + len ≤ length (area_of r below above)
-part_room r below above start len t = leb→le (start + len) (length (area_of r below above)) t
-
--- the two areas as the code lends them
-module _ (w : List ℕ) (n : ℕ) (h : n ≤ cell_room) where
-  pub singles-lent : n ≡ at single_cells 0 w → take (candidates.base + n - candidates.base) (drop candidates.base w) ≡ single_area w
-  unfolding single_area area
-  singles-lent e =
-      let a : candidates.base + n - candidates.base ≡ n = omega arith in
-      rw (a, ← e) (sym (take-take n cell_room (drop candidates.base w) h))
-
-  pub unions-lent : n ≡ at union_cells 0 w → take (candidates.base + candidates.size - (candidates.base + candidates.size - n)) (drop (candidates.base + candidates.size - n) w) ≡ union_area w
-  unfolding union_area area
-  unions-lent e =
-      let a : candidates.base + candidates.size - n ≡ candidates.base + (cell_room - n) = omega arith in
-      let b : candidates.base + candidates.size - (candidates.base + (cell_room - n)) ≡ cell_room - (cell_room - n) = omega arith in
-      rw (← e, drop_take (cell_room - n) cell_room (drop candidates.base w), drop-drop (cell_room - n) candidates.base w, a, b)
 
 -- a requirement in range has a key
 pub named_key : (r : Requirement) → Named r → key_of r < requirements
@@ -95,9 +71,6 @@ module _ (from to st n : ℕ) where
       rw (ne_eqb n 0 z, drop-drop (st - from) from l, y))
       (eq_or n 0)
 
-pub behind-from : (from to st n len : ℕ) → lies from to st n ≡ true → len ≡ n → (len ≡ 0 → ⊥) → from ≤ st
-behind-from from to st n len e q z = (lies_facts from to st n e (omega arith)).0
-
 -- its part lies in that area, and is its cells
 module _ (w : List ℕ) (slot : ℕ) (sound : Sound w) where
   single-length : length (single_area w) ≡ at single_cells 0 w
@@ -122,3 +95,22 @@ module _ (w : List ℕ) (slot : ℕ) (sound : Sound w) where
       part-of_take (place_in 0 st n) n sc (area candidates w) (omega (arith, place-fits 0 sc st n l.lying))
       ∙ place-run 0 sc st n (area candidates w) l.lying
   part-cells (Union u) l = place-run (unions_from w) cell_room (at list_starts slot w) (at list_lengths slot w) (area candidates w) l.lying
+
+-- list j of a requirement: that it is one, where it lies, and what its part is
+module _ (w : List ℕ) (r : Requirement) (j : ℕ) (sound : Sound w) (named : Named r) (inside : j < list_count w (key_of r)) where
+  listed : Listed w r (first_slot (key_of r) + j)
+  listed = listed_at w r j sound named inside
+
+  pub slot_listed : first_slot (key_of r) + j < lists
+  slot_listed = listed.slot<
+
+  pub lying_listed : lies (area_from w r) (area_to w r) (at list_starts (first_slot (key_of r) + j) w) (at list_lengths (first_slot (key_of r) + j) w) ≡ true
+  lying_listed = listed.lying
+
+  pub part_listed : T (in_part r (single_area w) (union_area w) (place_of w r (first_slot (key_of r) + j)) (at list_lengths (first_slot (key_of r) + j) w))
+  part_listed = part_fits w (first_slot (key_of r) + j) sound r listed
+
+  pub cells_listed : part_of r (single_area w) (union_area w) (place_of w r (first_slot (key_of r) + j)) (at list_lengths (first_slot (key_of r) + j) w) ≡ cells_of w (first_slot (key_of r) + j)
+  cells_listed = part-cells w (first_slot (key_of r) + j) sound r listed
+
+pub ruleset by_listing = (slot_listed, lying_listed, part_listed, cells_listed)

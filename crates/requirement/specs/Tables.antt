@@ -1,10 +1,12 @@
 -- The candidate tables as the layers above see them: a requirement's key, its lists, their version sets and their cells.
-use Rattle.std.specs.Prelude.{cond, List, ℕ, ◌+◌, ◌-◌, ◌*◌, ltb, eqb, take, drop, set}
+use Rattle.std.specs.Prelude.{Bool, cond, ◌&&◌, List, ℕ, ◌+◌, ◌-◌, ◌*◌, ltb, eqb, take, drop, set, Result, Ok, Err}
 use Rattle.rules.specs.Numbers.{from}
 use Rattle.store.specs.Area.{area, at}
-use Rattle.store.specs.Codes.{single_kind}
+use Rattle.store.specs.Codes.{single_kind, union_kind}
 use Rattle.store.specs.Layout.{set_names, union_sizes, union_sets, tables_loaded, list_starts, list_lengths, candidates}
-use Rattle.store.specs.Limits.{version_sets, union_room}
+use Rattle.store.specs.Limits.{version_sets, unions, union_room}
+use Rattle.store.specs.declared.refusals.Refusal.{Refusal}
+use Rattle.store.specs.declared.refusals.Refusal.TheVariants.{BadId}
 use Rattle.requirement.specs.declared.Requirement.{Requirement}
 use Rattle.requirement.specs.declared.Requirement.TheVariants.{Single, Union}
 
@@ -16,6 +18,23 @@ key_of (Union u) = version_sets + u
 -- the requirement of two numbers: kind 0 is a single, 1 a union
 unfoldable pub requirement_of : ℕ → ℕ → Requirement
 requirement_of kind id = cond (eqb kind single_kind) (Single id) (Union id)
+
+-- its two numbers
+abbrev pub kind_of : Requirement → ℕ
+kind_of (Single v) = single_kind
+kind_of (Union u) = union_kind
+
+abbrev pub id_of : Requirement → ℕ
+id_of (Single v) = v
+id_of (Union u) = u
+
+-- the two numbers name one: "an id is out of range; a kind number is unknown" where they do not
+abbrev pub in_range : ℕ → ℕ → Bool
+in_range kind id = cond (eqb kind single_kind) (ltb id version_sets) (eqb kind union_kind && ltb id unions)
+
+-- the requirement of two numbers as a call gives them, or 2
+unfoldable pub decoded : ℕ → ℕ → Result Requirement Refusal
+decoded kind id = cond (in_range kind id) (Ok (requirement_of kind id)) (Err BadId)
 
 -- the key of two numbers
 abbrev pub key_at : ℕ → ℕ → ℕ

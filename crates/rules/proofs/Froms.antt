@@ -86,11 +86,6 @@ part-from l i (suc n) h =
 
 -- a loop over what a function says of n numbers: what is left at a turn
 module _ {A : Type 0} (f : ℕ → A) (t n : ℕ) where
-  pub from_begin : from f t n ≡ from f (t + 0) (n - 0)
-  from_begin =
-      let e : n - 0 ≡ n = omega arith in
-      rw (e, add-zero t)
-
   pub from_next : (i : ℕ) → i < n → from f (t + i) (n - i) ≡ f (t + i) ∷ from f (t + (i + 1)) (n - (i + 1))
   unfolding from
   from_next i h =

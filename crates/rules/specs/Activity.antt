@@ -1,9 +1,7 @@
 -- "Activities are f32, compared as floats, zero at first"; 9: "an activity is NaN, infinite, or has its sign bit set (so also -0.0)".
-use Rattle.std.specs.Prelude.{Bool, true, false, cond, ℕ, Float}
+use Rattle.std.specs.Prelude.{Option, Some, None, Bool, true, false, cond, ℕ, Float}
 use Rattle.std.specs.Float.{nan, inf, fin, binary32}
 use Rattle.std.specs.Float.Ieee.{to_bits}
-use Rattle.rules.specs.declared.activity.Admitted.{Admitted}
-use Rattle.rules.specs.declared.activity.Admitted.TheVariants.{Bits, Bad}
 
 -- the bits of the largest finite f32: up to them the sign is clear and the number finite
 abbrev pub last_activity : ℕ
@@ -17,5 +15,5 @@ good (fin true m e) = false
 good (fin false m e) = true
 
 -- an activity is stored as its bits
-unfoldable pub admitted : Float → Admitted
-admitted x = cond (good x) (Bits (to_bits binary32 x)) Bad
+unfoldable pub admitted : Float → Option ℕ
+admitted x = cond (good x) (Some (to_bits binary32 x)) None

@@ -9,35 +9,28 @@ use crate::{Best, ROOT, activity};
 pub fn is_shielded(above: u32, parent: u32) -> bool
     ensures { result ≡ shields above parent }
 {
-    if above == ROOT {
-        return parent != ROOT;
-    }
-    false
+    above == ROOT && parent != ROOT
 }
 
-// Whether the walk stops at a best; `highest` is the largest stored activity, which only a narrow walk asks for.
+// Whether the walk stops at a best; `highest` is the largest stored activity, which only a narrow walk asks for. `narrow` is a bool as in
+// `stops_by`: what makes a walk narrow is of the environment.
 pub fn stops(b: Best, narrow: bool, highest: u32) -> bool
-    requires { (b.activity ≤ last_activity) × (highest ≤ last_activity) }
+    requires best_stored { b.activity ≤ last_activity }
+    requires highest_stored { highest ≤ last_activity }
     ensures { result ≡ stops_by narrow highest b }
 {
-    if b.count == 1 {
-        return true;
-    }
-    if narrow {
-        return activity::same(b.activity, highest);
-    }
-    false
+    b.count == 1 || (narrow && activity::same(b.activity, highest))
 }
 
 // The better of two bests: the second if its activity is strictly higher and its count strictly lower.
 pub fn better_of(b: Best, d: Best) -> Best
-    requires { (b.activity ≤ last_activity) × (d.activity ≤ last_activity) }
+    requires b_stored { b.activity ≤ last_activity }
+    requires d_stored { d.activity ≤ last_activity }
     ensures { result ≡ better 1 b d }
 {
-    if activity::higher(b.activity, d.activity) {
-        if d.count < b.count {
-            return d;
-        }
+    if activity::higher(b.activity, d.activity) && d.count < b.count {
+        d
+    } else {
+        b
     }
-    b
 }

@@ -1,69 +1,50 @@
-// Lists of numbers with `;` between them.
-use crate::names;
+// Lists of numbers.
+ghost use Rattle.std.specs.Prelude.{ℕ, ◌≡◌, ◌<◌, ◌≤◌, List, [], ◌∷◌, ◌++◌, length, take};
+ghost use Rattle.script.specs.declared.words.TheConstants.{MOST_WORDS};
+
 use crate::words::MOST_WORDS;
+use std::marker::Model;
 
-// How many lists and cells were taken.
-#[derive(Clone, Copy)]
-pub struct Taken {
-    pub lists: usize,
-    pub cells: usize,
+// Numbers, as many as a line has words or fewer. The room is fixed, so that none runs out of memory.
+#[derive(Drop)]
+pub struct Numbers {
+    cells: [u32; MOST_WORDS],
+    length: usize,
 }
 
-// Takes one more word: a number is the next cell of the last list, `;` begins a list, and `none` says that there is none.
-fn take(
-    taken: Taken,
-    word: u64,
-    lengths: &mut [u32; MOST_WORDS],
-    cells: &mut [u32; MOST_WORDS],
-) -> Taken {
-    let lists = taken.lists;
-    let n = taken.cells;
-    if word == names::SEMICOLON {
-        return begin(taken);
-    }
-    if word == names::NONE {
-        return Taken { lists: 0, cells: 0 };
-    }
-    if n < MOST_WORDS {
-        if word < names::FIRST {
-            cells[n] = word as u32;
-            lengthen(lists, lengths);
-            return Taken {
-                lists,
-                cells: n + 1,
-            };
+impl Model for Numbers {
+    ghost Value = { List ℕ };
+
+    ghost view = { λ n. take n.length n.cells };
+
+    ghost invariant = { λ n. n.length ≤ MOST_WORDS };
+}
+
+impl Numbers {
+    pub fn new() -> Self
+        ensures { result ≡ [] }
+    {
+        Numbers {
+            cells: [0; MOST_WORDS],
+            length: 0,
         }
     }
-    taken
-}
 
-fn begin(taken: Taken) -> Taken {
-    Taken {
-        lists: std::num::wrapping_add_usize(taken.lists, 1),
-        cells: taken.cells,
-    }
-}
-
-// The last of so many lists has one more cell.
-fn lengthen(lists: usize, lengths: &mut [u32; MOST_WORDS]) {
-    if 0 < lists {
-        if lists <= MOST_WORDS {
-            let last = lists - 1;
-            lengths[last] = std::num::wrapping_add_u32(lengths[last], 1);
+    // Adds one behind them, where there is room.
+    pub fn push(&mut self, number: u32)
+        ensures room { length self.old < MOST_WORDS → self.new ≡ self.old ++ number ∷ [] }
+        ensures full { MOST_WORDS ≤ length self.old → self.new ≡ self.old }
+    {
+        if self.length < MOST_WORDS {
+            self.cells[self.length] = number;
+            self.length += 1;
         }
     }
-}
 
-// The lists that the words from `from` on are: their lengths, and their cells one after the other. No word is one empty list.
-pub fn collect(
-    line: &[u64],
-    from: usize,
-    lengths: &mut [u32; MOST_WORDS],
-    cells: &mut [u32; MOST_WORDS],
-) -> Taken {
-    let mut taken = Taken { lists: 1, cells: 0 };
-    for i in from..line.len() {
-        taken = take(taken, line[i], lengths, cells);
+    pub fn as_slice(&self) -> &[u32]
+        ensures value { result.now ≡ self.now }
+        ensures bound { length result.now ≤ MOST_WORDS }
+    {
+        &self.cells[..self.length]
     }
-    taken
 }

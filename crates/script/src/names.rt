@@ -1,243 +1,128 @@
-// The words that are no numbers. Each has a code above every u32, and calls of one kind stand together, in the order in which `help`
-// lists them.
+// The words that are no numbers: calls, kinds, and what stands between or for numbers.
 ghost use Rattle.std.specs.Prelude.{◌≡◌, ◌↔◌, IsTrue};
 
-use store::limits;
+use crate::words::Word;
 
-// The code of the first of them.
-pub const FIRST: u64 = limits::LAST_WORD as u64 + 1;
+// The calls, in the order in which `help` lists them.
+#[derive(Clone, Copy, PartialEq, Eq)]
+pub enum Call {
+    Fresh,
+    VersionSet,
+    Union,
+    Candidates,
+    LookUp,
+    Disjunction,
+    Node,
+    Rewrite,
+    Assign,
+    UndoLast,
+    UndoUntil,
+    Next,
+    ClauseOf,
+    ValueOf,
+    LevelOf,
+    Trail,
+    Register,
+    Hot,
+    Activity,
+    Mode,
+    Sync,
+    Propose,
+    Holds,
+    Help,
+    Name,
+    Quit,
+}
 
-// Any other word.
-pub const UNKNOWN: u64 = FIRST;
+pub const CALLS: [Call; 26] = [
+    Call::Fresh,
+    Call::VersionSet,
+    Call::Union,
+    Call::Candidates,
+    Call::LookUp,
+    Call::Disjunction,
+    Call::Node,
+    Call::Rewrite,
+    Call::Assign,
+    Call::UndoLast,
+    Call::UndoUntil,
+    Call::Next,
+    Call::ClauseOf,
+    Call::ValueOf,
+    Call::LevelOf,
+    Call::Trail,
+    Call::Register,
+    Call::Hot,
+    Call::Activity,
+    Call::Mode,
+    Call::Sync,
+    Call::Propose,
+    Call::Holds,
+    Call::Help,
+    Call::Name,
+    Call::Quit,
+];
 
-// A word that begins like a number and is neither a u32 nor a decimal fraction.
-pub const NO_NUMBER: u64 = UNKNOWN + 1;
+// What a requirement is; as a number, what the store's calls take.
+#[derive(Clone, Copy, PartialEq, Eq)]
+pub enum RequirementKind {
+    Single = 0,
+    Union = 1,
+}
 
-// A word that begins with #.
-pub const COMMENT: u64 = NO_NUMBER + 1;
+// What a condition node is; as a number, what the store's calls take.
+#[derive(Clone, Copy, PartialEq, Eq)]
+pub enum NodeKind {
+    Leaf = 0,
+    And = 1,
+    Or = 2,
+}
 
-pub const SEMICOLON: u64 = COMMENT + 1;
-
-pub const DASH: u64 = SEMICOLON + 1;
-
-pub const NONE: u64 = DASH + 1;
-
-pub const SINGLE: u64 = NONE + 1;
-
-pub const UNION_KIND: u64 = SINGLE + 1;
-
-pub const LEAF: u64 = UNION_KIND + 1;
-
-pub const AND: u64 = LEAF + 1;
-
-pub const OR: u64 = AND + 1;
-
-// What may be given a name, as a union may.
-pub const VARIABLE: u64 = OR + 1;
-
-pub const PACK: u64 = VARIABLE + 1;
-
-pub const SET: u64 = PACK + 1;
-
-pub const CLAUSE: u64 = SET + 1;
-
-pub const FRESH: u64 = CLAUSE + 1;
-
-pub const VS: u64 = FRESH + 1;
-
-pub const UNION: u64 = VS + 1;
-
-pub const CAND: u64 = UNION + 1;
-
-pub const LOOKUP: u64 = CAND + 1;
-
-pub const DISJ: u64 = LOOKUP + 1;
-
-pub const NODE: u64 = DISJ + 1;
-
-pub const DNF: u64 = NODE + 1;
-
-pub const ASSIGN: u64 = DNF + 1;
-
-pub const UNDO_LAST: u64 = ASSIGN + 1;
-
-pub const UNDO_UNTIL: u64 = UNDO_LAST + 1;
-
-pub const NEXT: u64 = UNDO_UNTIL + 1;
-
-pub const CLAUSE_OF: u64 = NEXT + 1;
-
-pub const VALUE_OF: u64 = CLAUSE_OF + 1;
-
-pub const LEVEL_OF: u64 = VALUE_OF + 1;
-
-pub const TRAIL: u64 = LEVEL_OF + 1;
-
-pub const REGISTER: u64 = TRAIL + 1;
-
-pub const HOT: u64 = REGISTER + 1;
-
-pub const ACTIVITY: u64 = HOT + 1;
-
-pub const MODE: u64 = ACTIVITY + 1;
-
-pub const SYNC: u64 = MODE + 1;
-
-pub const PROPOSE: u64 = SYNC + 1;
-
-pub const HOLDS: u64 = PROPOSE + 1;
-
-pub const HELP: u64 = HOLDS + 1;
-
-pub const NAME: u64 = HELP + 1;
-
-pub const QUIT: u64 = NAME + 1;
-
-// A decimal fraction, whose digits are a number n with so many places behind the point, is n + places * FIRST behind this code.
-pub const FRACTIONS: u64 = 2 * FIRST;
-
-// Whether two words have the same bytes.
+// Whether two words have the same bytes: `==`, with what it says as a clause, which the crate promises.
 pub fn same(a: &[u8], b: &[u8]) -> bool
     ensures { IsTrue result ↔ (a.now ≡ b.now) }
 {
     a == b
 }
 
-// The code of a word. The calls that a day is full of are looked for first.
-pub fn code(word: &[u8]) -> u64 {
-    if same(word, b"assign") {
-        return ASSIGN;
+// The word of these bytes, which do not begin like a number.
+pub(crate) fn word_named(bytes: &[u8]) -> Word {
+    match bytes {
+        b"assign" => Word::Call(Call::Assign),
+        b"undo_last" => Word::Call(Call::UndoLast),
+        b"undo_until" => Word::Call(Call::UndoUntil),
+        b"next" => Word::Call(Call::Next),
+        b"clause_of" => Word::Call(Call::ClauseOf),
+        b"value_of" => Word::Call(Call::ValueOf),
+        b"level_of" => Word::Call(Call::LevelOf),
+        b"trail" => Word::Call(Call::Trail),
+        b"sync" => Word::Call(Call::Sync),
+        b"propose" => Word::Call(Call::Propose),
+        b";" => Word::Semicolon,
+        b"-" => Word::Dash,
+        b"none" => Word::None,
+        b"s" => Word::Requirement(RequirementKind::Single),
+        b"u" => Word::Requirement(RequirementKind::Union),
+        b"leaf" => Word::Node(NodeKind::Leaf),
+        b"and" => Word::Node(NodeKind::And),
+        b"or" => Word::Node(NodeKind::Or),
+        b"fresh" => Word::Call(Call::Fresh),
+        b"vs" => Word::Call(Call::VersionSet),
+        b"union" => Word::Call(Call::Union),
+        b"cand" => Word::Call(Call::Candidates),
+        b"lookup" => Word::Call(Call::LookUp),
+        b"disj" => Word::Call(Call::Disjunction),
+        b"node" => Word::Call(Call::Node),
+        b"register" => Word::Call(Call::Register),
+        b"hot" => Word::Call(Call::Hot),
+        b"activity" => Word::Call(Call::Activity),
+        b"mode" => Word::Call(Call::Mode),
+        b"dnf" => Word::Call(Call::Rewrite),
+        b"holds" => Word::Call(Call::Holds),
+        b"help" => Word::Call(Call::Help),
+        b"name" => Word::Call(Call::Name),
+        b"quit" => Word::Call(Call::Quit),
+        b"variable" | b"pack" | b"set" | b"clause" => Word::Thing,
+        _ => Word::Unknown,
     }
-    if same(word, b"undo_last") {
-        return UNDO_LAST;
-    }
-    if same(word, b"undo_until") {
-        return UNDO_UNTIL;
-    }
-    if same(word, b"next") {
-        return NEXT;
-    }
-    if same(word, b"clause_of") {
-        return CLAUSE_OF;
-    }
-    if same(word, b"value_of") {
-        return VALUE_OF;
-    }
-    if same(word, b"level_of") {
-        return LEVEL_OF;
-    }
-    if same(word, b"trail") {
-        return TRAIL;
-    }
-    if same(word, b"sync") {
-        return SYNC;
-    }
-    if same(word, b"propose") {
-        return PROPOSE;
-    }
-    mark_code(word)
-}
-
-// Kinds, and what stands between or for numbers.
-fn mark_code(word: &[u8]) -> u64 {
-    if same(word, b";") {
-        return SEMICOLON;
-    }
-    if same(word, b"-") {
-        return DASH;
-    }
-    if same(word, b"none") {
-        return NONE;
-    }
-    if same(word, b"s") {
-        return SINGLE;
-    }
-    if same(word, b"u") {
-        return UNION_KIND;
-    }
-    if same(word, b"leaf") {
-        return LEAF;
-    }
-    if same(word, b"and") {
-        return AND;
-    }
-    if same(word, b"or") {
-        return OR;
-    }
-    pack_code(word)
-}
-
-// Calls that load.
-fn pack_code(word: &[u8]) -> u64 {
-    if same(word, b"fresh") {
-        return FRESH;
-    }
-    if same(word, b"vs") {
-        return VS;
-    }
-    if same(word, b"union") {
-        return UNION;
-    }
-    if same(word, b"cand") {
-        return CAND;
-    }
-    if same(word, b"lookup") {
-        return LOOKUP;
-    }
-    if same(word, b"disj") {
-        return DISJ;
-    }
-    if same(word, b"node") {
-        return NODE;
-    }
-    other_code(word)
-}
-
-// The calls that are left.
-fn other_code(word: &[u8]) -> u64 {
-    if same(word, b"register") {
-        return REGISTER;
-    }
-    if same(word, b"hot") {
-        return HOT;
-    }
-    if same(word, b"activity") {
-        return ACTIVITY;
-    }
-    if same(word, b"mode") {
-        return MODE;
-    }
-    if same(word, b"dnf") {
-        return DNF;
-    }
-    if same(word, b"holds") {
-        return HOLDS;
-    }
-    people_code(word)
-}
-
-// What is for people: calls, and what a name is given to.
-fn people_code(word: &[u8]) -> u64 {
-    if same(word, b"help") {
-        return HELP;
-    }
-    if same(word, b"name") {
-        return NAME;
-    }
-    if same(word, b"quit") {
-        return QUIT;
-    }
-    if same(word, b"variable") {
-        return VARIABLE;
-    }
-    if same(word, b"pack") {
-        return PACK;
-    }
-    if same(word, b"set") {
-        return SET;
-    }
-    if same(word, b"clause") {
-        return CLAUSE;
-    }
-    UNKNOWN
 }

@@ -1,143 +1,138 @@
 // The settings of a store of sound shape. The crate's public calls test the shape and then call these.
-ghost use Rattle.std.specs.Prelude.{◌≡◌, ◌≤◌, ◌<◌, length};
+ghost use Rattle.std.specs.Prelude.{◌≡◌, ◌≤◌, ◌<◌, length, Ok, Err};
 ghost use Rattle.store.specs.Layout.{words};
 ghost use Rattle.store.specs.Limits.{names};
+ghost use Rattle.rules.specs.Activity.{admitted};
 ghost use Rattle.rules.specs.Numbers.{all_from};
 ghost use Rattle.store.specs.Shape.{Sound};
-ghost use Rattle.settings.specs.Settings.{activity_with, quiet, activity_on, activity_on_store, activity_row, hot_row, mode_row, name_row};
-ghost use Rattle.store.specs.Row.{answer_sound, left_sound};
+ghost use Rattle.settings.specs.Settings.{activity_with, bits_of, quiet, activity_tests, activity_row, hot_row, mode_row, name_row};
+ghost use Rattle.store.specs.Row.{judged, answer_sound, left_sound};
 
-use crate::{Name, Tuned};
+use crate::Name;
 use rules::activity;
-use rules::activity::Admitted;
-use store::{codes, limits, read, refusals, wide, write};
+use store::{Refusal, areas, codes, limits, wide};
 
-pub fn mark_hot(s: &mut [u32], name: u32) -> Tuned
+pub fn mark_hot(s: &mut [u32], name: u32) -> Result<(), Refusal>
     requires { Sound s.old }
-    ensures { (result ≡ answer_sound (hot_row s.old name)) × (s.new ≡ left_sound s.old (hot_row s.old name)) }
+    ensures answer { result ≡ answer_sound (hot_row s.old name) }
+    ensures left { s.new ≡ left_sound s.old (hot_row s.old name) }
 {
     if limits::NAMES as u32 <= name {
-        return Tuned::Refused(refusals::BAD_ID);
+        return Err(Refusal::BadId);
     }
-    write::hot(s, wide(name), 1);
-    Tuned::Done
+    areas::HOT_NAMES.put(s, wide(name), 1);
+    Ok(())
 }
 
-// The activity of name n once `name` had `bits`.
-fn activity_with(s: &[u32], name: usize, bits: u32, n: usize) -> u32
-    requires { (words ≤ length s.now) × (n < names) }
-    ensures { result ≡ activity_with s.now name bits n }
-{
-    if n == name {
-        return bits;
-    }
-    read::activity(s, n)
+// Bits that a name would be given as its activity. No name has the number `NAMES`, so with that nothing changes: the definition `mode_tests`
+// says it so, and an option would only be turned into that number.
+#[derive(Clone, Copy, PartialEq, Eq)]
+struct Change {
+    name: usize,
+    bits: u32,
 }
 
-// Whether name n would be hot or at zero.
-fn is_quiet(s: &[u32], name: usize, bits: u32, n: usize) -> bool
-    requires { (words ≤ length s.now) × (n < names) }
-    ensures { result ≡ quiet s.now name bits n }
-{
-    if read::hot(s, n) == 0 {
-        return activity_with(s, name, bits, n) == 0;
-    }
-    true
-}
-
-// Whether every name would be: what standard mode asks.
-fn all_quiet(s: &[u32], name: usize, bits: u32) -> bool
-    requires { words ≤ length s.now }
-    ensures { result ≡ all_from (quiet s.now name bits) 0 names }
-{
-    let mut n: usize = 0;
-    while n < limits::NAMES {
-        if is_quiet(s, name, bits, n) {} else {
-            return false;
+impl Change {
+    // The activity that name n would have.
+    #[tactic(auto, unfolding(crate::specs::Settings::activity_with))]
+    fn activity(self, s: &[u32], n: usize) -> u32
+        requires long { words ≤ length s.now }
+        requires inside { n < names }
+        ensures { result ≡ activity_with s.now self.name self.bits n }
+    {
+        if n == self.name {
+            self.bits
+        } else {
+            areas::ACTIVITIES.at(s, n)
         }
-        n += 1;
     }
-    true
-}
 
-// What giving a name in range an activity in range would answer.
-fn activity_case(s: &[u32], name: u32, bits: u32) -> Tuned
-    requires { words ≤ length s.now }
-    ensures { result ≡ activity_on s.now name bits }
-{
-    if read::mode(s) == codes::STANDARD {
-        if all_quiet(s, wide(name), bits) {
-            return Tuned::Done;
+    // Whether name n would be hot or at zero.
+    #[tactic(auto, unfolding(crate::specs::Settings::quiet))]
+    fn is_quiet(self, s: &[u32], n: usize) -> bool
+        requires long { words ≤ length s.now }
+        requires inside { n < names }
+        ensures { result ≡ quiet s.now self.name self.bits n }
+    {
+        areas::HOT_NAMES.at(s, n) != 0 || self.activity(s, n) == 0
+    }
+
+    // Whether every name would be: what standard mode asks.
+    #[tactic(auto, using(rules::proofs::Loops::testing_all))]
+    fn all_quiet(self, s: &[u32]) -> bool
+        requires { words ≤ length s.now }
+        ensures { result ≡ all_from (quiet s.now self.name self.bits) 0 names }
+    {
+        for n in 0..limits::NAMES {
+            if !self.is_quiet(s, n) {
+                return false;
+            }
         }
-        return Tuned::Refused(refusals::COLD_ACTIVITY);
-    }
-    Tuned::Done
-}
-
-// Gives a name in range an activity in range, unless 10 refuses it.
-fn store_activity(s: &mut [u32], name: u32, bits: u32) -> Tuned
-    requires { (words ≤ length s.old) × (name < names) }
-    ensures { (result ≡ activity_on s.old name bits) × (s.new ≡ activity_on_store s.old name bits) }
-{
-    let r = activity_case(s, name, bits);
-    match r {
-        Tuned::Done => write::activity(s, wide(name), bits),
-        Tuned::Refused(_) => {}
-    }
-    r
-}
-
-pub fn set_activity(s: &mut [u32], name: u32, activity: f32) -> Tuned
-    requires { Sound s.old }
-    ensures { (result ≡ answer_sound (activity_row s.old name activity)) × (s.new ≡ left_sound s.old (activity_row s.old name activity)) }
-{
-    if limits::NAMES as u32 <= name {
-        return Tuned::Refused(refusals::BAD_ID);
-    }
-    match activity::admit(activity) {
-        Admitted::Bits(bits) => store_activity(s, name, bits),
-        Admitted::Bad => Tuned::Refused(refusals::BAD_ACTIVITY),
+        true
     }
 }
 
-// What setting the mode would answer.
-fn mode_case(s: &[u32], mode: u32) -> Tuned
+// What giving an activity would answer: the bits to store.
+#[tactic(auto, unfolding(crate::specs::Settings::activity_tests))]
+fn activity_case(s: &[u32], name: u32, activity: f32) -> Result<u32, Refusal>
     requires { Sound s.now }
-    ensures { result ≡ answer_sound (mode_row s.now mode) }
+    ensures { result ≡ judged Err (activity_tests s.now name activity) (Ok (bits_of (admitted activity))) }
 {
-    if 2 <= mode {
-        return Tuned::Refused(refusals::BAD_ID);
+    if limits::NAMES as u32 <= name {
+        return Err(Refusal::BadId);
     }
-    if mode == codes::STANDARD {
-        if all_quiet(s, limits::NAMES, 0) {
-            return Tuned::Done;
-        }
-        return Tuned::Refused(refusals::COLD_ACTIVITY);
+    let bits = activity::admit(activity).ok_or(Refusal::BadActivity)?;
+    let change = Change {
+        name: wide(name),
+        bits,
+    };
+    if areas::MODE.at(s, 0) == codes::STANDARD && !change.all_quiet(s) {
+        return Err(Refusal::ColdActivity);
     }
-    Tuned::Done
+    Ok(bits)
 }
 
-pub fn set_mode(s: &mut [u32], mode: u32) -> Tuned
+#[tactic(auto, unfolding(crate::specs::Settings::activity_tests))]
+pub fn set_activity(s: &mut [u32], name: u32, activity: f32) -> Result<(), Refusal>
     requires { Sound s.old }
-    ensures { (result ≡ answer_sound (mode_row s.old mode)) × (s.new ≡ left_sound s.old (mode_row s.old mode)) }
+    ensures answer { result ≡ answer_sound (activity_row s.old name activity) }
+    ensures left { s.new ≡ left_sound s.old (activity_row s.old name activity) }
 {
-    let r = mode_case(s, mode);
-    match r {
-        Tuned::Done => write::mode(s, mode),
-        Tuned::Refused(_) => {}
-    }
-    r
+    let bits = activity_case(s, name, activity)?;
+    areas::ACTIVITIES.put(s, wide(name), bits);
+    Ok(())
 }
 
-pub fn name_of(s: &[u32], name: u32) -> Name
+#[tactic(auto, unfolding(crate::specs::Settings::mode_tests))]
+pub fn set_mode(s: &mut [u32], mode: u32) -> Result<(), Refusal>
+    requires { Sound s.old }
+    ensures answer { result ≡ answer_sound (mode_row s.old mode) }
+    ensures left { s.new ≡ left_sound s.old (mode_row s.old mode) }
+{
+    if codes::STANDARD < mode {
+        return Err(Refusal::BadId);
+    }
+    let unchanged = Change {
+        name: limits::NAMES,
+        bits: 0,
+    };
+    if mode == codes::STANDARD && !unchanged.all_quiet(s) {
+        return Err(Refusal::ColdActivity);
+    }
+    areas::MODE.put(s, 0, mode);
+    Ok(())
+}
+
+pub fn name_of(s: &[u32], name: u32) -> Result<Name, Refusal>
     requires { Sound s.now }
     ensures { result ≡ answer_sound (name_row s.now name) }
 {
     if limits::NAMES as u32 <= name {
-        return Name::Refused(refusals::BAD_ID);
+        return Err(Refusal::BadId);
     }
-    Name::Is {
-        activity: read::activity(s, wide(name)),
-        hot: read::hot(s, wide(name)),
-    }
+    let n = wide(name);
+    Ok(Name {
+        activity: areas::ACTIVITIES.at(s, n),
+        hot: areas::HOT_NAMES.at(s, n),
+    })
 }

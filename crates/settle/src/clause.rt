@@ -1,47 +1,17 @@
 // Calls that register clauses and set what a proposal goes by: register, hot, activity, mode.
-use clauses::Registered;
-use script::{names, say, words};
-use settings::Tuned;
+use crate::desk::Desk;
+use script::forms::{Activity, Registration};
+use script::words::Fraction;
 use std::io::{self, Write};
-use store::limits;
-use store::limits::WORD_ROOM;
+use store::{codes, limits};
 
-fn say_registered<W: Write>(out: &mut W, answer: Registered) -> io::Result<()> {
-    match answer {
-        Registered::Done => say::ok(out),
-        Registered::Refused(n) => say::refused(out, n),
+// The condition as the store's call takes it: the last u32 is none. Written as a number it names no disjunction, nor does the one before it.
+fn condition_number(condition: Option<u32>) -> u32 {
+    match condition {
+        Some(codes::NO_CONDITION) => codes::NO_CONDITION - 1,
+        Some(disjunction) => disjunction,
+        None => codes::NO_CONDITION,
     }
-}
-
-fn say_tuned<W: Write>(out: &mut W, answer: Tuned) -> io::Result<()> {
-    match answer {
-        Tuned::Done => say::ok(out),
-        Tuned::Refused(n) => say::refused(out, n),
-    }
-}
-
-// The condition, word 4: the last u32 is none. Written as a number it names no disjunction, nor does the one before it.
-fn condition(line: &[u64]) -> u32 {
-    if words::word(line, 4) == names::DASH {
-        return limits::LAST_WORD as u32;
-    }
-    let disjunction = words::number(line, 4);
-    if disjunction == limits::LAST_WORD as u32 {
-        return disjunction - 1;
-    }
-    disjunction
-}
-
-fn register<W: Write>(out: &mut W, s: &mut [u32; WORD_ROOM], line: &[u64]) -> io::Result<()> {
-    let answer = clauses::register(
-        s,
-        words::number(line, 1),
-        words::requirement_kind(line, 2),
-        words::number(line, 3),
-        condition(line),
-        words::number(line, 5),
-    );
-    say_registered(out, answer)
 }
 
 // The activity of some bits. Above those of the largest finite number all are bad (9), as -1 is.
@@ -54,38 +24,39 @@ fn of_bits(bits: u32) -> f32 {
 }
 
 // The float nearest to a decimal fraction, by one division of two floats that are exact.
-fn of_fraction(word: u64) -> f32 {
-    std::num::nearest_u32_to_f32(words::digits(word))
-        / std::num::nearest_u32_to_f32(words::divisor(word))
+fn of_fraction(fraction: Fraction) -> f32 {
+    std::num::nearest_u32_to_f32(fraction.digits) / std::num::nearest_u32_to_f32(fraction.divisor)
 }
 
-// Word i as an activity: a fraction, or bits.
-fn activity_of(line: &[u64], i: usize) -> f32 {
-    let word = words::word(line, i);
-    if words::is_fraction(word) {
-        return of_fraction(word);
+impl<W: Write> Desk<W> {
+    pub fn register(&mut self, asked: Registration) -> io::Result<()> {
+        let answer = clauses::register(
+            &mut self.store,
+            asked.parent,
+            asked.kind as u32,
+            asked.requirement,
+            condition_number(asked.condition),
+            asked.clause,
+        );
+        self.tell(answer)
     }
-    of_bits(words::number(line, i))
-}
 
-fn activity<W: Write>(out: &mut W, s: &mut [u32; WORD_ROOM], line: &[u64]) -> io::Result<()> {
-    say_tuned(
-        out,
-        settings::set_activity(s, words::number(line, 1), activity_of(line, 2)),
-    )
-}
+    pub fn mark_hot(&mut self, name: u32) -> io::Result<()> {
+        let answer = settings::mark_hot(&mut self.store, name);
+        self.tell(answer)
+    }
 
-pub fn make<W: Write>(
-    out: &mut W,
-    s: &mut [u32; WORD_ROOM],
-    line: &[u64],
-    call: u64,
-) -> io::Result<()> {
-    let first = words::number(line, 1);
-    match call {
-        names::REGISTER => register(out, s, line),
-        names::HOT => say_tuned(out, settings::mark_hot(s, first)),
-        names::ACTIVITY => activity(out, s, line),
-        _ => say_tuned(out, settings::set_mode(s, first)),
+    pub fn set_activity(&mut self, name: u32, activity: Activity) -> io::Result<()> {
+        let activity = match activity {
+            Activity::Bits(bits) => of_bits(bits),
+            Activity::Fraction(fraction) => of_fraction(fraction),
+        };
+        let answer = settings::set_activity(&mut self.store, name, activity);
+        self.tell(answer)
+    }
+
+    pub fn set_mode(&mut self, mode: u32) -> io::Result<()> {
+        let answer = settings::set_mode(&mut self.store, mode);
+        self.tell(answer)
     }
 }

@@ -1,113 +1,105 @@
 // Calls on the trail: assign, undo_last, undo_until, next, clause_of, value_of, level_of, trail.
-use crate::whole_trail;
-use script::{names, say, words};
+use crate::desk::Desk;
+use script::forms::Assignment;
+use std::fmt;
 use std::io::{self, Write};
-use store::limits;
-use store::limits::WORD_ROOM;
-use trail::{Assigned, Cause, Decision, Next, Undone, Until, Valued};
+use store::{Refusal, limits};
+use trail::{Assigned, Decision, Undone, entries};
 
-fn say_assigned<W: Write>(out: &mut W, answer: Assigned) -> io::Result<()> {
-    match answer {
-        Assigned::New => say::text(out, b"new\n"),
-        Assigned::Already => say::text(out, b"already\n"),
-        Assigned::Refused(n) => say::refused(out, n),
+// An entry as an answer says it.
+#[derive(Clone, Copy)]
+struct Entry(Decision);
+
+impl fmt::Display for Entry {
+    fn fmt<W: fmt::Write>(&self, f: &mut fmt::Formatter<W>) -> fmt::Result {
+        let Decision {
+            variable,
+            value,
+            clause,
+        } = self.0;
+        write!(f, "{variable} {value} {clause}")
     }
 }
 
-fn assign<W: Write>(out: &mut W, s: &mut [u32; WORD_ROOM], line: &[u64]) -> io::Result<()> {
-    let answer = trail::assign(
-        s,
-        words::number(line, 1),
-        words::number(line, 2),
-        words::number(line, 3),
-        words::number(line, 4),
-    );
-    say_assigned(out, answer)
-}
-
-fn say_decision<W: Write>(out: &mut W, name: &[u8], decision: Decision) -> io::Result<()> {
-    say::text(out, name)?;
-    say::word(out, decision.variable)?;
-    say::word(out, decision.value)?;
-    say::word(out, decision.clause)
-}
-
-fn say_undone<W: Write>(out: &mut W, answer: Undone) -> io::Result<()> {
-    match answer {
-        Undone::Popped(decision, level) => {
-            say_decision(out, b"popped", decision)?;
-            say::word(out, level)?;
-            say::line_end(out)
+impl<W: Write> Desk<W> {
+    pub fn assign(&mut self, assignment: Assignment) -> io::Result<()> {
+        let Assignment {
+            variable,
+            value,
+            level,
+            clause,
+        } = assignment;
+        match trail::assign(&mut self.store, variable, value, level, clause) {
+            Ok(Assigned::New) => writeln!(self.out, "new"),
+            Ok(Assigned::Already) => writeln!(self.out, "already"),
+            Err(refusal) => self.refuse(refusal),
         }
-        Undone::Refused(n) => say::refused(out, n),
     }
-}
 
-fn say_until<W: Write>(out: &mut W, answer: Until) -> io::Result<()> {
-    match answer {
-        Until::Done => say::ok(out),
-        Until::Refused(n) => say::refused(out, n),
-    }
-}
-
-fn say_next<W: Write>(out: &mut W, answer: Next) -> io::Result<()> {
-    match answer {
-        Next::Entry(decision) => {
-            say_decision(out, b"next", decision)?;
-            say::line_end(out)
+    pub fn undo_last(&mut self) -> io::Result<()> {
+        match trail::undo_last(&mut self.store) {
+            Ok(Undone { decision, level }) => {
+                writeln!(self.out, "popped {} {level}", Entry(decision))
+            }
+            Err(refusal) => self.refuse(refusal),
         }
-        Next::Nothing => say::none(out),
-        Next::Refused(n) => say::refused(out, n),
     }
-}
 
-fn say_cause<W: Write>(out: &mut W, answer: Cause) -> io::Result<()> {
-    match answer {
-        Cause::Clause(clause) => say::named(out, b"clause", clause),
-        Cause::Nothing => say::none(out),
-        Cause::Refused(n) => say::refused(out, n),
+    pub fn undo_until(&mut self, level: u32) -> io::Result<()> {
+        let answer = trail::undo_until(&mut self.store, level);
+        self.tell(answer)
     }
-}
 
-fn say_value<W: Write>(out: &mut W, answer: Valued) -> io::Result<()> {
-    match answer {
-        Valued::Decided { value, level: _ } => say::named(out, b"value", value),
-        Valued::Undecided => say::text(out, b"value -\n"),
-        Valued::Refused(n) => say::refused(out, n),
+    pub fn next(&mut self) -> io::Result<()> {
+        match trail::next_unpropagated(&mut self.store) {
+            Ok(Some(decision)) => writeln!(self.out, "next {}", Entry(decision)),
+            Ok(None) => writeln!(self.out, "none"),
+            Err(refusal) => self.refuse(refusal),
+        }
     }
-}
 
-fn say_level<W: Write>(out: &mut W, answer: Valued) -> io::Result<()> {
-    match answer {
-        Valued::Decided { value: _, level } => say::named(out, b"level", level),
-        Valued::Undecided => say::named(out, b"level", 0),
-        Valued::Refused(n) => say::refused(out, n),
+    pub fn clause_of(&mut self, variable: u32) -> io::Result<()> {
+        match trail::clause_of(&self.store, variable) {
+            Ok(Some(clause)) => writeln!(self.out, "clause {clause}"),
+            Ok(None) => writeln!(self.out, "none"),
+            Err(refusal) => self.refuse(refusal),
+        }
     }
-}
 
-// The room of the list that the trail is copied to: word 1, or where there is none all that it can need.
-fn room(line: &[u64]) -> u32 {
-    if line.len() == 2 {
-        return words::number(line, 1);
+    pub fn value_of(&mut self, variable: u32) -> io::Result<()> {
+        match trail::value_of(&self.store, variable) {
+            Ok(Some(valued)) => writeln!(self.out, "value {}", valued.value),
+            Ok(None) => writeln!(self.out, "value -"),
+            Err(refusal) => self.refuse(refusal),
+        }
     }
-    limits::TRAIL_ROOM as u32
-}
 
-pub fn make<W: Write>(
-    out: &mut W,
-    s: &mut [u32; WORD_ROOM],
-    line: &[u64],
-    call: u64,
-) -> io::Result<()> {
-    let first = words::number(line, 1);
-    match call {
-        names::ASSIGN => assign(out, s, line),
-        names::UNDO_LAST => say_undone(out, trail::undo_last(s)),
-        names::UNDO_UNTIL => say_until(out, trail::undo_until(s, first)),
-        names::NEXT => say_next(out, trail::next_unpropagated(s)),
-        names::CLAUSE_OF => say_cause(out, trail::clause_of(s, first)),
-        names::VALUE_OF => say_value(out, trail::value_of(s, first)),
-        names::LEVEL_OF => say_level(out, trail::value_of(s, first)),
-        _ => whole_trail::say_trail(out, s, room(line)),
+    pub fn level_of(&mut self, variable: u32) -> io::Result<()> {
+        match trail::value_of(&self.store, variable) {
+            Ok(Some(valued)) => writeln!(self.out, "level {}", valued.level),
+            Ok(None) => writeln!(self.out, "level 0"),
+            Err(refusal) => self.refuse(refusal),
+        }
+    }
+
+    // The whole trail, to a list with room for so many entries, or for all that there can be.
+    pub fn trail(&mut self, room: Option<u32>) -> io::Result<()> {
+        match trail::trail_length(&self.store) {
+            Ok(length) if room.is_some_and(|room| room < length) => self.refuse(Refusal::NoRoom),
+            Ok(length) => self.say_entries(store::wide(length)),
+            Err(refusal) => self.refuse(refusal),
+        }
+    }
+
+    fn say_entries(&mut self, length: usize) -> io::Result<()> {
+        write!(self.out, "trail")?;
+        // By number: an entry lies in three areas of the store, and is no element of a slice.
+        for k in 0..length.min(limits::TRAIL_ROOM) {
+            if 0 < k {
+                write!(self.out, " ;")?;
+            }
+            write!(self.out, " {}", Entry(entries::decision_at(&self.store, k)))?;
+        }
+        writeln!(self.out)
     }
 }

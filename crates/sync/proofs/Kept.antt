@@ -9,7 +9,8 @@ use lib.ListN.{length}
 use Rattle.store.proofs.AreaLaws.{length_put, at-put-same, area_kept, apart-inside}
 use Rattle.store.proofs.Runs.{length_run, area-run_kept, ranged-run}
 use Rattle.store.proofs.Soundness.{ranged-put, tabled-same}
-use Rattle.store.specs.Area.{Area, area, at, put, apart}
+use Rattle.store.specs.declared.area.Area.{Area}
+use Rattle.store.specs.Area.{area, at, put, apart}
 use Rattle.store.specs.Layout.{queued, cache_states, mirror, mirror_length, sync_floor, propagated, trail_length, trail_variables, map, clause_count, queue_region, mirror_region, tables_region}
 use Rattle.store.specs.Limits.{clauses, requirements, trail_room, last_variable}
 use Rattle.store.specs.Shape.{every, up_to, Sound}

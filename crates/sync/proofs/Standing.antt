@@ -8,7 +8,8 @@ use Rattle.meaning.proofs.Frames.{env-same, assigned-same, queue-same, trail-sam
 use Rattle.meaning.specs.Standing.{env_of, queue_of, trail_of, mirror_of, store_of}
 use Rattle.rules.specs.Store.{sync, touched}
 use Rattle.rules.specs.Sync.{value, variables, routes}
-use Rattle.store.specs.Area.{Area, at, apart}
+use Rattle.store.specs.declared.area.Area.{Area}
+use Rattle.store.specs.Area.{at, apart}
 use Rattle.store.specs.Layout.{mirror_length, sync_floor, trail_length, map, clause_count, environment_region, mirror_region, queue_region, trail_region}
 use Rattle.store.specs.Shape.{Sound}
 use Rattle.sync.proofs.Kept.{swept-area, swept-sound, mirrored_area, mirrored_at, new-floor, new_length, sync-outside}

@@ -11,7 +11,8 @@ use lib.ListN.{length}
 use Rattle.store.proofs.AreaLaws.{length_put, at-put-same, at-put_else, area_kept}
 use Rattle.rules.proofs.Choice.{eq_or}
 use Rattle.store.proofs.Soundness.{untied, sound-put}
-use Rattle.store.specs.Area.{Area, area, at, put, Fits, apart, ◌upto◌}
+use Rattle.store.specs.declared.area.Area.{Area}
+use Rattle.store.specs.Area.{area, at, put, Fits, apart, ◌upto◌}
 use Rattle.store.specs.Layout.{table}
 use Rattle.store.specs.Shape.{listed, Sound}
 use Rattle.sync.specs.Sweep.{sweep}

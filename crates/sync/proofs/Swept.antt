@@ -1,4 +1,5 @@
 -- THE ONE SWEEP stands for the routing of the touched variables, one after the other. Assumes nothing.
+use Rattle.std.specs.Prelude.{None}
 use mathlib.Core.Bool.{Bool, true, false, cond, ◌||◌}
 use mathlib.Core.List.{List}
 use mathlib.Core.Logic.{⊎_elim}
@@ -11,10 +12,10 @@ use Rattle.meaning.specs.Standing.{of_clause, env_of, cache_by, cache_of, mark_o
 use Rattle.meaning.specs.View.{lists_at}
 use Rattle.rules.proofs.Sweeps.{routes-swept}
 use Rattle.rules.specs.Sync.{routes, spoiled}
-use Rattle.rules.specs.declared.Cache.TheVariants.{Dirty}
 use Rattle.store.proofs.AreaLaws.{at-past}
 use Rattle.rules.proofs.Choice.{lt_or, or_none, or_true}
-use Rattle.store.specs.Area.{Area, at, apart}
+use Rattle.store.specs.declared.area.Area.{Area}
+use Rattle.store.specs.Area.{at, apart}
 use Rattle.store.specs.Layout.{queued, cache_states, cache_candidates, cache_names, cache_counts, map, clause_count, environment_region}
 use Rattle.store.specs.Limits.{requirements}
 use Rattle.store.specs.Shape.{Sound}
@@ -25,11 +26,11 @@ use Rattle.sync.specs.Sync.{wakes_at, spoils_at, woken_words, spoiled_words, swe
 use Rattle.trail.specs.Assignment.{assigned}
 
 -- a cache whose state word becomes 0 is dirty
-cache_zero : (a b c : ℕ) → cache_by 0 a b c ≡ Dirty
+cache_zero : (a b c : ℕ) → cache_by 0 a b c ≡ None
 unfolding cache_by
 cache_zero a b c = refl
 
-cache_set : (t : Bool) (k a b c : ℕ) → cache_by (cond t 0 k) a b c ≡ cond t Dirty (cache_by k a b c)
+cache_set : (t : Bool) (k a b c : ℕ) → cache_by (cond t 0 k) a b c ≡ cond t None (cache_by k a b c)
 cache_set true k a b c = cache_zero a b c
 cache_set false k a b c = refl
 

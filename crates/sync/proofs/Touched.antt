@@ -1,20 +1,23 @@
--- The table of touched variables: what it tells, and the loop that enters variables. Assumes nothing.
+-- The table of touched variables: what it tells, and the loops that enter variables. Assumes nothing.
 use mathlib.Core.Bool.{Bool, true, false, cond, ◌||◌}
 use mathlib.Core.List.{List, [], ◌∷◌, ◌++◌}
 use mathlib.Core.Logic.{⊎_elim}
-use mathlib.Core.Path.{◌≡◌, refl, sym, ◌∙◌}
+use mathlib.Core.Path.{◌≡◌, refl, sym, ap, ◌∙◌}
 use Prim.Native.Nat.{ℕ, zero, suc, ◌+◌, ◌-◌, ◌≤◌, ◌<◌}
 use native.Mathlib.Omega.{arith}
-use borrow.Author.Tests.{leb-true, eqb-true, eqb-false, ne_eqb}
+use borrow.Author.Tests.{eqb-true, eqb-false, ne_eqb}
 use lib.Dec.{eqb}
-use lib.ListN.{length, get_or, set, replicate, length-set, length-replicate, get_or-replicate}
+use lib.ListN.{length, get_or, set, replicate, get_or-replicate}
 use lib.Seq.{get_or-set_same, get_or-set_other}
 use Rattle.rules.specs.Numbers.{from}
 use Rattle.rules.specs.Walk.{member}
-use Rattle.rules.proofs.Choice.{both, lt_or, or_none, or_true}
-use Rattle.store.specs.Limits.{variables, last_variable}
-use Rattle.store.specs.Shape.{every, up_to}
-use Rattle.sync.specs.Table.{found_in, in_table, entered, table_of}
+use Rattle.rules.proofs.Choice.{lt_or, or_assoc, or_none, or_true}
+use Rattle.store.specs.Limits.{variables}
+use Rattle.store.specs.Area.{at}
+use Rattle.store.specs.Layout.{mirror_length, sync_floor, trail_length}
+use Rattle.sync.specs.Table.{found_in, in_table}
+use Rattle.sync.specs.Sync.{mirror_at, new_entries, old_entries, touched_in}
+use Rattle.trail.specs.Assignment.{variable_at}
 use Rattle.rules.proofs.Froms.{upto_next, upto_done}
 
 not_found : (t : List Bool) (v n : ℕ) → n ≤ v → member v (found_in t n) ≡ false
@@ -27,10 +30,10 @@ not_found t v (suc n) h = go (get_or t n false) (not_found t v n (omega arith))
     go false e = e
 
 -- the place of a variable tells whether the table has it
-pub found-is : (t : List Bool) (v n : ℕ) → v < n → get_or t v false ≡ member v (found_in t n)
+pub found_is : (t : List Bool) (v n : ℕ) → v < n → get_or t v false ≡ member v (found_in t n)
 unfolding found_in member
-found-is t v zero h = absurd (omega arith)
-found-is t v (suc n) h = go (eqb v n) (get_or t n false) refl refl (found-is t v n)
+found_is t v zero h = absurd (omega arith)
+found_is t v (suc n) h = go (eqb v n) (get_or t n false) refl refl (found_is t v n)
   where
     go : (a b : Bool) → eqb v n ≡ a → get_or t n false ≡ b → (v < n → get_or t v false ≡ member v (found_in t n)) → get_or t v false ≡ member v (cond b (n ∷ found_in t n) (found_in t n))
     go true true e f ih = rw (e, eqb-true v n e) f
@@ -38,51 +41,55 @@ found-is t v (suc n) h = go (eqb v n) (get_or t n false) refl refl (found-is t v
     go false true e f ih = rw e (ih (omega (arith, eqb-false v n e)))
     go false false e f ih = ih (omega (arith, eqb-false v n e))
 
--- entering some and then others is entering both
-pub entered-both : (t : List Bool) (U W : List ℕ) → entered t (U ++ W) ≡ entered (entered t U) W
-unfolding entered
-entered-both t [] W = refl
-entered-both t (v ∷ U) W = entered-both (set t v true) U W
+-- no variable is in an empty table
+pub empty_tells : (v : ℕ) → member v (in_table (replicate variables false)) ≡ false
+empty_tells v = ⊎_elim
+    (λ (h : v < variables). sym (found_is (replicate variables false) v variables h) ∙ get_or-replicate variables v false false h)
+    (λ (h : variables ≤ v). not_found (replicate variables false) v variables h)
+    (lt_or v variables)
 
--- what is entered is there, and all else as it was
-entered_at : (t : List Bool) (W : List ℕ) (v : ℕ) → v < length t → get_or (entered t W) v false ≡ get_or t v false || member v W
-unfolding entered member
-entered_at t [] v h = sym (or_none (get_or t v false))
-entered_at t (u ∷ W) v h = entered_at (set t u true) W v (rw (length-set t u true) h) ∙ go (eqb v u) refl
+-- a table with one variable more
+pub entered_tells : (t : List Bool) (v : ℕ) → v < variables → length t ≡ variables → (x : ℕ) → member x (in_table (set t v true)) ≡ member x (in_table t) || eqb x v
+entered_tells t v l size x = ⊎_elim inner outer (lt_or x variables)
   where
-    go : (b : Bool) → eqb v u ≡ b → get_or (set t u true) v false || member v W ≡ get_or t v false || (b || member v W)
-    go true e = rw (← eqb-true v u e, get_or-set_same t v true false h) (sym (or_true (get_or t v false)))
-    go false e = rw (get_or-set_other t u v true false (eqb-false v u e))
+    here : (b : Bool) → eqb x v ≡ b → x < variables → get_or (set t v true) x false ≡ get_or t x false || b
+    here true e h = rw (eqb-true x v e, get_or-set_same t v true false (omega arith)) (sym (or_true (get_or t v false)))
+    here false e h = rw (get_or-set_other t v x true false (eqb-false x v e)) (sym (or_none (get_or t x false)))
 
--- a list in range has no number above it
-none_above : (m v : ℕ) (W : List ℕ) → every (up_to m) W ≡ true → m < v → member v W ≡ false
-unfolding every member
-none_above m v [] e h = refl
-none_above m v (u ∷ W) e h =
-    let p = both (up_to m u) (every (up_to m) W) e in
-    let l = leb-true u m p.0 in
-    rw (ne_eqb v u (omega arith)) (none_above m v W p.1 h)
+    inner : x < variables → member x (in_table (set t v true)) ≡ member x (in_table t) || eqb x v
+    inner h = sym (found_is (set t v true) x variables h) ∙ here (eqb x v) refl h ∙ rw (found_is t x variables h)
 
--- THE TABLE OF SOME VARIABLES has exactly those
-pub table_tells : (W : List ℕ) → every (up_to last_variable) W ≡ true → (v : ℕ) → member v (in_table (table_of W)) ≡ member v W
-table_tells W e v = ⊎_elim inner outer (lt_or v variables)
-  where
-    inner : v < variables → member v (in_table (entered (replicate variables false) W)) ≡ member v W
-    inner h =
-        let z = get_or-replicate variables v false false h in
-        sym (found-is (entered (replicate variables false) W) v variables h)
-        ∙ entered_at (replicate variables false) W v (rw (length-replicate variables false) h)
-        ∙ rw z
+    outer : variables ≤ x → member x (in_table (set t v true)) ≡ member x (in_table t) || eqb x v
+    outer h = rw (not_found (set t v true) x variables h, not_found t x variables h, ne_eqb x v (omega arith))
 
-    outer : variables ≤ v → member v (in_table (entered (replicate variables false) W)) ≡ member v W
-    outer h = not_found (entered (replicate variables false) W) v variables h ∙ sym (none_above last_variable v W e (omega arith))
+-- a number is in two lists, one behind the other, if it is in one of them
+pub member-both : (v : ℕ) (xs ys : List ℕ) → member v (xs ++ ys) ≡ member v xs || member v ys
+unfolding member
+member-both v [] ys = refl
+member-both v (x ∷ xs) ys = rw (member-both v xs ys) (or_assoc (eqb v x) (member v xs) (member v ys))
 
--- the loop that enters variables: what is left to enter makes the whole table
-module _ (f : ℕ → ℕ) (W : List ℕ) (t r : List Bool) (i to : ℕ) (so : entered t W ≡ entered r (from f i (to - i))) where
-  pub enter_turn : (x : ℕ) → x ≡ f i → i < to → entered t W ≡ entered (set r x true) (from f (i + 1) (to - (i + 1)))
-  unfolding entered
-  enter_turn x e h = so ∙ rw (upto_next f i to h, ← e)
+-- the loop that enters variables: those that are in and those that are left are all that a test passes
+module _ (p : ℕ → Bool) (f : ℕ → ℕ) (t : List ℕ) (i end : ℕ) (so : (v : ℕ) → member v t || member v (from f i (end - i)) ≡ p v) where
+  pub enter_turn : (x : ℕ) → x ≡ f i → (r : List ℕ) → ((v : ℕ) → member v r ≡ member v t || eqb v x) → i < end → (v : ℕ) → member v r || member v (from f (i + 1) (end - (i + 1))) ≡ p v
+  unfolding member
+  enter_turn x is r e h v =
+      rw (e v, is)
+      (sym (or_assoc (member v t) (eqb v (f i)) (member v (from f (i + 1) (end - (i + 1)))))
+      ∙ ap (λ (l : List ℕ). member v t || member v l) (sym (upto_next f i end h))
+      ∙ so v)
 
-  pub enter_done : to ≤ i → r ≡ entered t W
-  unfolding entered
-  enter_done h = sym (so ∙ rw (upto_done f i to h))
+  pub enter_done : end ≤ i → (v : ℕ) → member v t ≡ p v
+  unfolding member
+  enter_done h v = sym (or_none (member v t)) ∙ ap (λ (l : List ℕ). member v t || member v l) (sym (upto_done f i end h)) ∙ so v
+
+-- what is touched, in two runs, into a table of some variables
+module _ (w o t : List ℕ) (floor n : ℕ) (is : floor ≡ at sync_floor 0 w) where
+  pub old_first : n ≡ at mirror_length 0 w → (v : ℕ) → member v o || member v (from (mirror_at w) floor (n - floor)) ≡ member v o || member v (old_entries w)
+  unfolding old_entries
+  old_first e v = rw (is, e)
+
+  pub new_next : n ≡ at trail_length 0 w → ((v : ℕ) → member v t ≡ member v o || member v (old_entries w)) → (v : ℕ) → member v t || member v (from (variable_at w) floor (n - floor)) ≡ member v o || member v (touched_in w)
+  unfolding touched_in new_entries
+  new_next e old v =
+      rw (old v, is, e, member-both v (old_entries w) (from (variable_at w) (at sync_floor 0 w) (at trail_length 0 w - at sync_floor 0 w)))
+      (sym (or_assoc (member v o) (member v (old_entries w)) (member v (from (variable_at w) (at sync_floor 0 w) (at trail_length 0 w - at sync_floor 0 w)))))

@@ -7,32 +7,26 @@ use Prim.Native.Nat.{ℕ, ◌+◌, ◌-◌, ◌≤◌, ◌<◌}
 use native.Mathlib.Omega.{arith}
 use borrow.Author.Tests.{leb-true, le-leb, lt-leb}
 use lib.Dec.{T}
-use lib.ListN.{length, get_or}
+use lib.ListN.{length, get_or, take, drop, length-take, length-drop}
+use lib.Seq.{get_or-take, get_or-drop}
 use Rattle.trail.specs.Assignment.{variable_at}
 use Rattle.rules.specs.Numbers.{from}
 use Rattle.meaning.specs.Standing.{cache_of}
 use Rattle.rules.specs.Walk.{member}
-use Rattle.store.proofs.AreaLaws.{at-is, length_area, length_put, area_kept}
+use Rattle.store.proofs.AreaLaws.{length_area, length_put, area_kept}
 use Rattle.rules.proofs.Choice.{lt_or}
 use Rattle.store.proofs.Counting.{every-at}
-use Rattle.store.specs.Area.{Area, area, at, put, put_run, Fits, apart}
-use Rattle.store.specs.Layout.{queued, cache_states, cache_candidates, cache_names, cache_counts, mirror, mirror_length, sync_floor, trail_length, trail_variables, map, clause_count, environment_region}
-use Rattle.store.specs.Limits.{variables, requirements, trail_room, last_variable}
+use Rattle.store.specs.declared.area.Area.{Area}
+use Rattle.store.specs.Area.{area, at, put, put_run, apart}
+use Rattle.store.specs.Layout.{queued, cache_states, cache_candidates, cache_names, cache_counts, mirror, sync_floor, trail_length, trail_variables, map, clause_count, environment_region}
+use Rattle.store.specs.Limits.{requirements, trail_room}
 use Rattle.store.specs.Shape.{every, up_to, Sound}
-use Rattle.sync.proofs.Kept.{few, woken-sound, spoiled-sound, new_in_range}
+use Rattle.sync.proofs.Kept.{few, woken-sound, spoiled-sound}
 use Rattle.sync.proofs.Sweeping.{length_sweep, area-sweep, sound-sweep, at-sweep_else, sweep_idle, sweep_set, sweep_skip, sweep_on, sweep-same}
 use Rattle.sync.proofs.Tests.{dirty-stays, cache_kept, wakes_kept, spoils_kept, wakes_alike, spoils_alike}
-use Rattle.sync.proofs.Touched.{entered-both, table_tells}
 use Rattle.sync.specs.Sweep.{sweep}
-use Rattle.sync.specs.Sync.{mirror_at, old_entries, new_entries, touched_in, wakes_at, spoils_at, block, DirtyBlock, spoils_from, spoiled_from, woken_words, spoiled_words, swept_words, copied_words, mirrored_words, sync_left}
-use Rattle.sync.specs.Table.{in_table, entries_of, entered, table_of}
+use Rattle.sync.specs.Sync.{new_entries, touched_in, wakes_at, spoils_at, block, DirtyBlock, spoils_from, spoiled_from, woken_words, spoiled_words, swept_words, copied_words, mirrored_words, sync_left}
 use Rattle.rules.proofs.Froms.{upto_next, upto_done}
-use Rattle.meaning.proofs.Lists.{every-from, every-both}
-
--- an entry is of a variable, and lies in its area
-pub entry_variable : (w : List ℕ) → Sound w → (old : Bool) (i : ℕ) → entries_of old w i < variables
-entry_variable w h true i = let m = h.ranges mirror last_variable tt i in omega arith
-entry_variable w h false i = let m = h.ranges trail_variables last_variable tt i in omega arith
 
 -- the marks: so far the first k were swept
 module _ (w W s : List ℕ) (n k : ℕ) (h : Sound w) (q : n ≡ at clause_count 0 w) (l : k ≤ n) (so : s ≡ sweep queued (wakes_at w W) 1 w k) where
@@ -136,15 +130,16 @@ module _ (w W : List ℕ) (from : ℕ) where
       (lt_or i from))
 
 -- a ceiling of 0 says that a block is dirty
-pub ceiling_dirty : (w : List ℕ) (from top : ℕ) → every (up_to top) (area (record { base = cache_states.base + from; size = block }) w) ≡ true → Sound w → from + block ≤ requirements → top ≡ 0 → DirtyBlock w from
+pub ceiling_dirty : (w states : List ℕ) (from top : ℕ) → states ≡ area cache_states w → every (up_to top) (take (from + block - from) (drop from states)) ≡ true → Sound w → from + block ≤ requirements → top ≡ 0 → DirtyBlock w from
 unfolding at
-ceiling_dirty w from top e h l z key m n =
-    let part : Area = record { base = cache_states.base + from; size = block } in
-    let fits : Fits part w = omega (arith, h.long) in
+ceiling_dirty w states from top is e h l z key m n =
     let i : ℕ = key - from in
-    let low : at part i w ≤ top = leb-true _ _ (every-at (up_to top) (area part w) e i (rw (length_area part w fits) (omega arith))) in
-    let there : cache_states.base + key ≡ part.base + i = omega arith in
-    let same : at cache_states key w ≡ at part i w = sym (at-is cache_states key w (omega arith)) ∙ ap (λ k. get_or w k 0) there ∙ at-is part i w (omega arith) in
+    let few : i < from + block - from = omega arith in
+    let size : length states ≡ requirements = ap length is ∙ length_area cache_states w (omega (arith, h.long)) in
+    let inside : i < length (take (from + block - from) (drop from states)) = omega (arith, length-take (from + block - from) (drop from states), length-drop from states) in
+    let low : get_or (take (from + block - from) (drop from states)) i 0 ≤ top = leb-true _ _ (every-at (up_to top) (take (from + block - from) (drop from states)) e i inside) in
+    let there : from + i ≡ key = omega arith in
+    let same : get_or (take (from + block - from) (drop from states)) i 0 ≡ at cache_states key w = get_or-take (from + block - from) (drop from states) i 0 few ∙ get_or-drop from states i 0 ∙ ap (λ k. get_or states k 0) there ∙ ap (λ xs. get_or xs key 0) is in
     omega (arith, low, same)
 
 -- the copy: what is left to copy makes the whole copy
@@ -170,43 +165,30 @@ module _ (w s : List ℕ) (i n : ℕ) (long : length s ≡ length w) (kept : are
   unfolding put_run
   copy_done l = sym (so ∙ rw (upto_done (λ k. at trail_variables k w) i n l))
 
--- the touched variables are entered in two runs
-pub both-entered : (w : List ℕ) (t r u : List Bool) (floor old n : ℕ) → floor ≡ at sync_floor 0 w → old ≡ at mirror_length 0 w → n ≡ at trail_length 0 w → r ≡ entered t (from (mirror_at w) floor (old - floor)) → u ≡ entered r (from (variable_at w) floor (n - floor)) → u ≡ entered t (touched_in w)
-unfolding touched_in old_entries new_entries
-both-entered w t r u floor old n p q o e f =
-    rw (← p, ← q, ← o)
-    (f
-    ∙ ap (λ (v : List Bool). entered v (from (variable_at w) floor (n - floor))) e
-    ∙ sym (entered-both t (from (mirror_at w) floor (old - floor)) (from (variable_at w) floor (n - floor))))
-
--- the touched variables are variables
-touched_in_range : (w : List ℕ) → Sound w → every (up_to last_variable) (touched_in w) ≡ true
-unfolding touched_in old_entries
-touched_in_range w h =
-    every-both (up_to last_variable) (old_entries w) (new_entries w)
-    (every-from last_variable (λ k. at mirror k w) (h.ranges mirror last_variable tt) (at sync_floor 0 w) (at mirror_length 0 w - at sync_floor 0 w))
-    (new_in_range w h)
-
 -- the steps of a sync, one after the other
-module _ (w : List ℕ) (t : List Bool) (s : List ℕ) (h : Sound w) (e : s ≡ woken_words w (in_table t)) where
+module _ (w T s : List ℕ) (h : Sound w) (e : s ≡ woken_words w T) where
   pub first-sound : Sound s
-  first-sound = rw e (woken-sound w (in_table t) h)
+  first-sound = rw e (woken-sound w T h)
 
-  module _ (r : List ℕ) (f : r ≡ spoiled_words s (in_table t)) where
+  module _ (r : List ℕ) (f : r ≡ spoiled_words s T) where
     pub second-sound : Sound r
-    second-sound = rw f (spoiled-sound s (in_table t) first-sound)
+    second-sound = rw f (spoiled-sound s T first-sound)
 
-    pub sync_made : (u : List ℕ) → t ≡ table_of (touched_in w) → u ≡ mirrored_words r → u ≡ sync_left w
+    pub sync_made : (u : List ℕ) → ((v : ℕ) → member v T ≡ member v (touched_in w)) → u ≡ mirrored_words r → u ≡ sync_left w
     unfolding sync_left swept_words woken_words spoiled_words
-    sync_made u i g = g ∙ ap mirrored_words (f ∙ ap (λ (v : List ℕ). spoiled_words v (in_table t)) (e ∙ marks) ∙ caches)
+    sync_made u same g = g ∙ ap mirrored_words (f ∙ ap (λ (v : List ℕ). spoiled_words v T) (e ∙ marks) ∙ caches)
       where
-        same : (v : ℕ) → member v (in_table t) ≡ member v (touched_in w)
-        same v = ap (λ (l : List Bool). member v (in_table l)) i ∙ table_tells (touched_in w) (touched_in_range w h) v
+        marks : woken_words w T ≡ woken_words w (touched_in w)
+        marks = sweep-same queued (wakes_at w T) (wakes_at w (touched_in w)) 1 w (at clause_count 0 w) (wakes_alike T (touched_in w) same w)
 
-        marks : woken_words w (in_table t) ≡ woken_words w (touched_in w)
-        marks = sweep-same queued (wakes_at w (in_table t)) (wakes_at w (touched_in w)) 1 w (at clause_count 0 w) (wakes_alike (in_table t) (touched_in w) same w)
-
-        caches : spoiled_words (woken_words w (touched_in w)) (in_table t) ≡ spoiled_words (woken_words w (touched_in w)) (touched_in w)
+        caches : spoiled_words (woken_words w (touched_in w)) T ≡ spoiled_words (woken_words w (touched_in w)) (touched_in w)
         caches =
-            sweep-same cache_states (spoils_at (woken_words w (touched_in w)) (in_table t)) (spoils_at (woken_words w (touched_in w)) (touched_in w)) 0 (woken_words w (touched_in w)) requirements
-            (spoils_alike (in_table t) (touched_in w) same (woken_words w (touched_in w)))
+            sweep-same cache_states (spoils_at (woken_words w (touched_in w)) T) (spoils_at (woken_words w (touched_in w)) (touched_in w)) 0 (woken_words w (touched_in w)) requirements
+            (spoils_alike T (touched_in w) same (woken_words w (touched_in w)))
+
+-- for the three loops
+pub ruleset waking = (waking_length, waking_count, waking_set, waking_skip)
+
+pub ruleset spoiling = (spoiling_none, spoiling_length, spoiling_sound, spoiling_set, spoiling_skip, spoiling_end)
+
+pub ruleset copying = (copy_start, copy_long, copy_done)

@@ -1,55 +1,72 @@
-// The table of touched variables: place v is true where v is touched.
-ghost use Rattle.std.specs.Prelude.{◌≡◌, ◌-◌, ◌≤◌, ◌<◌};
-ghost use Rattle.store.specs.Limits.{variables, trail_room};
+// The table of touched variables.
+ghost use Rattle.std.specs.Prelude.{false, ◌≡◌, ◌||◌, ◌<◌, ℕ, eqb};
+ghost use Rattle.store.specs.Limits.{variables};
 ghost use Rattle.store.specs.Shape.{Sound};
 ghost use Rattle.rules.specs.Walk.{member};
-ghost use Rattle.rules.specs.Numbers.{from};
 ghost use Rattle.sync.specs.Sync.{touched_in};
-ghost use Rattle.sync.specs.Table.{in_table, entries_of, entered};
 
-use store::{limits, read, wide};
+use std::marker::Model;
+use store::{areas, limits, wide};
 use trail::entries;
 
-// A place for each variable.
-pub const PLACES: usize = limits::VARIABLES;
-
-// Whether a variable is touched.
-pub fn is_touched(t: &[bool; PLACES], v: u32) -> bool
-    requires { v < variables }
-    ensures { result ≡ member v (in_table t.now) }
-{
-    t[wide(v)]
+// The touched variables, as a set: place v is true where v is one. Nothing is allocated.
+#[derive(Drop)]
+pub struct Touched {
+    places: [bool; limits::VARIABLES],
 }
 
-// Entry i as the last sync saw it, or as it is.
-fn entry(s: &[u32], old: bool, i: usize) -> u32
-    requires { (Sound s.now) × (i < trail_room) }
-    ensures { result ≡ entries_of old s.now i }
-{
-    if old {
-        return read::mirrored(s, i);
+impl Model for Touched {
+    ghost use Rattle.std.specs.Prelude.{List, ℕ};
+    ghost use Rattle.sync.specs.Table.{in_table};
+
+    ghost Value = { List ℕ };
+
+    ghost view = { λ t. in_table t.places };
+}
+
+impl Touched {
+    // No variable.
+    #[tactic(auto, using(crate::proofs::Touched::empty_tells))]
+    pub fn none() -> Self
+        ensures { (v : ℕ) → member v result ≡ false }
+    {
+        Touched {
+            places: [false; limits::VARIABLES],
+        }
     }
-    entries::variable_at(s, i)
-}
 
-// Enters the entries `first`, .., `end` - 1.
-fn enter(s: &[u32], t: &mut [bool; PLACES], old: bool, first: usize, end: usize)
-    requires { (Sound s.now) × (end ≤ trail_room) }
-    ensures { t.new ≡ entered t.old (from (entries_of old s.now) first (end - first)) }
-{
-    let mut i = first;
-    while i < end {
-        t[wide(entry(s, old, i))] = true;
-        i += 1;
+    // Whether a variable is touched.
+    #[tactic(auto, using(crate::proofs::Touched::found_is))]
+    pub fn has(&self, variable: u32) -> bool
+        requires { variable < variables }
+        ensures { result ≡ member variable self.now }
+    {
+        self.places[wide(variable)]
     }
-}
 
-// Enters the entries of the mirror and of the trail at or beyond the floor.
-pub fn enter_touched(s: &[u32], t: &mut [bool; PLACES])
-    requires { Sound s.now }
-    ensures { t.new ≡ entered t.old (touched_in s.now) }
-{
-    let floor = wide(entries::floor(s));
-    enter(s, t, true, floor, wide(read::mirror_length(s)));
-    enter(s, t, false, floor, wide(entries::length(s)));
+    // Enters a variable.
+    #[tactic(auto, using(crate::proofs::Touched::entered_tells))]
+    fn enter(&mut self, v: u32)
+        requires { v < variables }
+        ensures { (x : ℕ) → member x self.new ≡ member x self.old || eqb x v }
+    {
+        self.places[wide(v)] = true;
+    }
+
+    // Enters the variables of the mirror's entries and of the trail's at or beyond the floor. It fills a table that is there: one that
+    // it returned would be copied.
+    pub fn enter_touched(&mut self, s: &[u32])
+        requires { Sound s.now }
+        ensures { (v : ℕ) → member v self.new ≡ member v self.old || member v (touched_in s.now) }
+    {
+        let floor = wide(entries::floor(s));
+        let mirrored = wide(areas::MIRROR_LENGTH.at(s, 0));
+        let length = wide(entries::length(s));
+        for k in floor..mirrored {
+            self.enter(areas::MIRROR.at(s, k));
+        }
+        for i in floor..length {
+            self.enter(entries::variable_at(s, i));
+        }
+    }
 }

@@ -11,7 +11,8 @@ use lib.ListN.{length}
 use Rattle.store.proofs.AreaLaws.{length_put, at-put-same, at-put_else, area_kept, at_kept, within, at_same, apart-inside}
 use Rattle.rules.proofs.Choice.{both, eq_or}
 use Rattle.store.proofs.Runs.{area-run_kept}
-use Rattle.store.specs.Area.{Area, area, at, put, put_run, Fits, apart}
+use Rattle.store.specs.declared.area.Area.{Area}
+use Rattle.store.specs.Area.{area, at, put, put_run, Fits, apart}
 use Rattle.store.specs.Layout.{mirror_length, sync_floor, propagated, trail_length, map, list_starts, single_cells, union_cells, disjunction_starts, disjunction_sizes, node_lefts, node_rights, single_starts, single_lengths, union_starts, union_lengths, words, region, tables_region}
 use Rattle.store.specs.Limits.{most_disjunction_size}
 use Rattle.store.specs.Shape.{every, lies, Ranged, Tabled, Sound}

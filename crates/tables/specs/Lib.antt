@@ -1,5 +1,5 @@
-pub mod Answer
 pub mod Condition
 pub mod Disjunction
+pub mod Loaded
 pub mod Union
 pub mod VersionSet

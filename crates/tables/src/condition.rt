@@ -1,122 +1,125 @@
 // Condition nodes in a store of sound shape. The crate's public calls test the shape and then call these.
 ghost use Rattle.std.specs.Prelude.{◌≡◌, ◌≤◌, ◌<◌, length};
+ghost use Rattle.store.specs.Codes.{called_leaf, called_or};
 ghost use Rattle.store.specs.Layout.{words};
-ghost use Rattle.store.specs.Limits.{nodes, last_word};
-ghost use Rattle.store.specs.Shape.{Sound};
-ghost use Rattle.tables.specs.Condition.{node_loaded, leaf_in, branch_in, leafed, branched, node_put, load_condition_row};
-ghost use Rattle.tables.specs.declared.Loaded.TheVariants.{Done};
 ghost use Rattle.store.specs.Row.{answer_sound, left_sound};
+ghost use Rattle.store.specs.Shape.{Sound};
+ghost use Rattle.tables.specs.Condition.{load_condition_row};
 
-use crate::{Loaded, version_set};
-use store::{codes, limits, read, refusals, wide, write};
+use crate::is_loaded;
+use store::{Refusal, areas, codes, limits, wide};
 
-// Whether a condition node is loaded; a number out of range never is.
-fn node_loaded(s: &[u32], node: u32) -> bool
-    requires { words ≤ length s.now }
-    ensures { result ≡ node_loaded s.now node }
-{
-    if node < limits::NODES as u32 {
-        return 0 < read::node_kind(s, wide(node));
-    }
-    false
+// A leaf as a call gives it: the version set that it names.
+#[derive(Clone, Copy, PartialEq, Eq)]
+struct Leaf {
+    number: u32,
+    set: u32,
 }
 
-// What loading a leaf would answer.
-fn leaf_case(s: &[u32], node: u32, set: u32) -> Loaded
-    requires { words ≤ length s.now }
-    ensures { result ≡ leaf_in s.now node set }
-{
-    if limits::NODES as u32 <= node {
-        return Loaded::Refused(refusals::BAD_ID);
+impl Leaf {
+    // What loading it would answer.
+    #[tactic(auto, unfolding(crate::specs::Condition::load_condition_tests))]
+    fn load_case(self, s: &[u32]) -> Result<(), Refusal>
+        requires { words ≤ length s.now }
+        ensures { result ≡ answer_sound (load_condition_row s.now self.number called_leaf self.set 0) }
+    {
+        if limits::NODES as u32 <= self.number || !is_loaded(s, areas::SET_NAMES, self.set) {
+            return Err(Refusal::BadId);
+        }
+        if is_loaded(s, areas::NODE_KINDS, self.number) {
+            return Err(Refusal::LoadedTwice);
+        }
+        Ok(())
     }
-    if version_set::set_loaded(s, set) {} else {
-        return Loaded::Refused(refusals::BAD_ID);
+
+    #[tactic(auto, unfolding(crate::specs::Condition::load_condition_tests, crate::specs::Condition::node_put, crate::specs::Condition::leafed))]
+    fn load(self, s: &mut [u32]) -> Result<(), Refusal>
+        requires { words ≤ length s.old }
+        ensures answer { result ≡ answer_sound (load_condition_row s.old self.number called_leaf self.set 0) }
+        ensures left { s.new ≡ left_sound s.old (load_condition_row s.old self.number called_leaf self.set 0) }
+    {
+        self.load_case(s)?;
+        areas::NODE_KINDS.put(s, wide(self.number), codes::LEAF);
+        areas::NODE_SETS.put(s, wide(self.number), self.set);
+        Ok(())
     }
-    if node_loaded(s, node) {
-        return Loaded::Refused(refusals::LOADED_TWICE);
-    }
-    Loaded::Done
 }
 
-// What loading a branch would answer.
-fn branch_case(s: &[u32], node: u32, left: u32, right: u32) -> Loaded
-    requires { words ≤ length s.now }
-    ensures { result ≡ branch_in s.now node left right }
-{
-    if limits::NODES as u32 <= node {
-        return Loaded::Refused(refusals::BAD_ID);
-    }
-    if node_loaded(s, left) {} else {
-        return Loaded::Refused(refusals::BAD_ID);
-    }
-    if node_loaded(s, right) {} else {
-        return Loaded::Refused(refusals::BAD_ID);
-    }
-    if node <= left {
-        return Loaded::Refused(refusals::MALFORMED);
-    }
-    if node <= right {
-        return Loaded::Refused(refusals::MALFORMED);
-    }
-    if node_loaded(s, node) {
-        return Loaded::Refused(refusals::LOADED_TWICE);
-    }
-    Loaded::Done
+// An `and` (kind 1) or `or` (kind 2) of two nodes, as a call gives it. Its kind stays a number: what is stored is one more, and nothing else is asked
+// of it.
+#[derive(Clone, Copy, PartialEq, Eq)]
+struct Branch {
+    number: u32,
+    kind: u32,
+    left: u32,
+    right: u32,
 }
 
-// What loading would answer.
-fn load_case(s: &[u32], node: u32, kind: u32, left: u32, right: u32) -> Loaded
-    requires { words ≤ length s.now }
-    ensures { result ≡ answer_sound (load_condition_row s.now node kind left right) }
-{
-    if codes::CALLED_OR < kind {
-        return Loaded::Refused(refusals::BAD_ID);
+impl Branch {
+    // What loading it would answer.
+    #[tactic(auto, unfolding(crate::specs::Condition::load_condition_tests))]
+    fn load_case(self, s: &[u32]) -> Result<(), Refusal>
+        requires long { words ≤ length s.now }
+        requires no_leaf { called_leaf < self.kind }
+        requires known { self.kind ≤ called_or }
+        ensures { result ≡ answer_sound (load_condition_row s.now self.number self.kind self.left self.right) }
+    {
+        if limits::NODES as u32 <= self.number
+            || !is_loaded(s, areas::NODE_KINDS, self.left)
+            || !is_loaded(s, areas::NODE_KINDS, self.right)
+        {
+            return Err(Refusal::BadId);
+        }
+        if self.number <= self.left || self.number <= self.right {
+            return Err(Refusal::Malformed);
+        }
+        if is_loaded(s, areas::NODE_KINDS, self.number) {
+            return Err(Refusal::LoadedTwice);
+        }
+        Ok(())
     }
-    if kind == codes::CALLED_LEAF {
-        return leaf_case(s, node, left);
+
+    // Its kind and its children are stored as one more.
+    #[tactic(auto, unfolding(crate::specs::Condition::load_condition_tests, crate::specs::Condition::node_put, crate::specs::Condition::branched))]
+    fn load(self, s: &mut [u32]) -> Result<(), Refusal>
+        requires long { words ≤ length s.old }
+        requires no_leaf { called_leaf < self.kind }
+        requires known { self.kind ≤ called_or }
+        ensures answer { result ≡ answer_sound (load_condition_row s.old self.number self.kind self.left self.right) }
+        ensures left { s.new ≡ left_sound s.old (load_condition_row s.old self.number self.kind self.left self.right) }
+    {
+        self.load_case(s)?;
+        areas::NODE_KINDS.put(s, wide(self.number), self.kind + 1);
+        areas::NODE_LEFTS.put(s, wide(self.number), self.left + 1);
+        areas::NODE_RIGHTS.put(s, wide(self.number), self.right + 1);
+        Ok(())
     }
-    branch_case(s, node, left, right)
 }
 
-// Writes a leaf.
-fn put_leaf(s: &mut [u32], node: u32, set: u32)
-    requires { (words ≤ length s.old) × (node < nodes) }
-    ensures { s.new ≡ leafed s.old node set }
-{
-    write::node_kind(s, wide(node), codes::LEAF);
-    write::node_set(s, wide(node), set);
-}
-
-// Writes a branch. The kinds of the calls, 0 a leaf, 1 `and`, 2 `or`, are stored as one more, as the children are.
-fn put_branch(s: &mut [u32], node: u32, kind: u32, left: u32, right: u32)
-    requires { (words ≤ length s.old) × (node < nodes) × (kind < last_word) × (left < last_word) × (right < last_word) }
-    ensures { s.new ≡ branched s.old node kind left right }
-{
-    write::node_kind(s, wide(node), kind + 1);
-    write::node_left(s, wide(node), left + 1);
-    write::node_right(s, wide(node), right + 1);
-}
-
-// Writes a node.
-fn put_node(s: &mut [u32], node: u32, kind: u32, left: u32, right: u32)
-    requires { (words ≤ length s.old) × (answer_sound (load_condition_row s.old node kind left right) ≡ Done) }
-    ensures { s.new ≡ node_put s.old node kind left right }
-{
-    if kind == codes::CALLED_LEAF {
-        put_leaf(s, node, left);
-        return;
-    }
-    put_branch(s, node, kind, left, right);
-}
-
-pub fn load(s: &mut [u32], node: u32, kind: u32, left: u32, right: u32) -> Loaded
+// Kind 0 is a leaf of the version set `left`, 1 the `and` and 2 the `or` of two nodes.
+#[tactic(auto, unfolding(crate::specs::Condition::load_condition_tests, crate::specs::Condition::node_put))]
+pub fn load(s: &mut [u32], node: u32, kind: u32, left: u32, right: u32) -> Result<(), Refusal>
     requires { Sound s.old }
-    ensures { (result ≡ answer_sound (load_condition_row s.old node kind left right)) × (s.new ≡ left_sound s.old (load_condition_row s.old node kind left right)) }
+    ensures answer { result ≡ answer_sound (load_condition_row s.old node kind left right) }
+    ensures left { s.new ≡ left_sound s.old (load_condition_row s.old node kind left right) }
 {
-    let r = load_case(s, node, kind, left, right);
-    match r {
-        Loaded::Done => put_node(s, node, kind, left, right),
-        Loaded::Refused(_) => {}
+    match kind {
+        codes::CALLED_LEAF => {
+            let leaf = Leaf {
+                number: node,
+                set: left,
+            };
+            leaf.load(s)
+        }
+        ..=codes::CALLED_OR => {
+            let branch = Branch {
+                number: node,
+                kind,
+                left,
+                right,
+            };
+            branch.load(s)
+        }
+        _ => Err(Refusal::BadId),
     }
-    r
 }

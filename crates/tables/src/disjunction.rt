@@ -3,43 +3,40 @@ ghost use Rattle.std.specs.Prelude.{◌≡◌, ◌+◌, ◌≤◌, ◌<◌, leng
 ghost use Rattle.store.specs.Area.{at};
 ghost use Rattle.store.specs.Layout.{words, literal_count};
 ghost use Rattle.store.specs.Limits.{disjunctions, literal_room};
-ghost use Rattle.store.specs.Shape.{Sound};
-ghost use Rattle.tables.specs.Disjunction.{disjunction_loaded, literals_of, literals_under, literals_fit, literals_put, load_disjunction_row};
 ghost use Rattle.store.specs.Row.{answer_sound, left_sound};
+ghost use Rattle.store.specs.Shape.{Sound};
+ghost use Rattle.tables.specs.Disjunction.{literals_of, literals_under, literals_fit, literals_put, load_disjunction_row};
 
-use crate::{Literals, Loaded};
-use store::{areas, lent, limits, read, refusals, wide, write};
+use crate::{Literals, is_loaded};
+use store::{Refusal, areas, lent, limits, wide};
 
-// Whether a disjunction is loaded; a number out of range never is.
-pub fn disjunction_loaded(s: &[u32], disjunction: u32) -> bool
-    requires { words ≤ length s.now }
-    ensures { result ≡ disjunction_loaded s.now disjunction }
-{
-    if disjunction < limits::DISJUNCTIONS as u32 {
-        return 0 < read::disjunction_size(s, wide(disjunction));
-    }
-    false
+// The literals of a disjunction as a caller lends them: literal j is variables[j] with signs[j].
+#[derive(Clone, Copy)]
+struct Lent<'a> {
+    variables: &'a [u32],
+    signs: &'a [u32],
 }
 
 // The literals of a disjunction: none where it is not loaded.
+#[tactic(auto, unfolding(crate::specs::Disjunction::literals_of))]
 pub fn literals_of(s: &[u32], disjunction: u32) -> Literals
-    requires { (words ≤ length s.now) × (disjunction < disjunctions) }
+    requires long { words ≤ length s.now }
+    requires known { disjunction < disjunctions }
     ensures { result ≡ literals_of s.now disjunction }
 {
-    let start = read::disjunction_start(s, wide(disjunction));
-    let size = read::disjunction_size(s, wide(disjunction));
-    if size == 0 {
-        return Literals { start, count: 0 };
-    }
+    let start = areas::DISJUNCTION_STARTS.at(s, wide(disjunction));
+    let size = areas::DISJUNCTION_SIZES.at(s, wide(disjunction));
     Literals {
         start,
-        count: size - 1,
+        count: size.saturating_sub(1),
     }
 }
 
-// The literals of a condition as a clause stores it: 0 is none, else one more than the disjunction.
+// The literals of a condition as a clause stores it: 0 is none, else one more than the disjunction. It is the stored word, whose range `Sound` gives.
+#[tactic(auto, unfolding(crate::specs::Disjunction::literals_under))]
 pub fn literals_under(s: &[u32], condition: u32) -> Literals
-    requires { (words ≤ length s.now) × (condition ≤ disjunctions) }
+    requires long { words ≤ length s.now }
+    requires known { condition ≤ disjunctions }
     ensures { result ≡ literals_under s.now condition }
 {
     if condition == 0 {
@@ -49,72 +46,64 @@ pub fn literals_under(s: &[u32], condition: u32) -> Literals
 }
 
 // Whether each literal has a variable in range and a sign.
-fn literals_fit(variables: &[u32], signs: &[u32]) -> bool
-    ensures { result ≡ literals_fit variables.now signs.now }
+#[tactic(auto, unfolding(crate::specs::Disjunction::literals_fit))]
+fn literals_fit(literals: Lent) -> bool
+    ensures { result ≡ literals_fit literals.entry.variables.now literals.entry.signs.now }
 {
-    if variables.len() == signs.len() {} else {
-        return false;
-    }
-    if lent::all_upto(variables, limits::LAST_VARIABLE as u32) {
-        return lent::all_upto(signs, 1);
-    }
-    false
+    literals.variables.len() == literals.signs.len()
+        && lent::all_upto(literals.variables, limits::LAST_VARIABLE as u32)
+        && lent::all_upto(literals.signs, 1)
 }
 
 // What loading would answer.
-fn load_case(s: &[u32], disjunction: u32, variables: &[u32], signs: &[u32]) -> Loaded
-    requires { Sound s.now }
-    ensures { result ≡ answer_sound (load_disjunction_row s.now disjunction variables.now signs.now) }
+#[tactic(auto, unfolding(crate::specs::Disjunction::load_disjunction_tests))]
+fn load_case(s: &[u32], disjunction: u32, literals: Lent) -> Result<(), Refusal>
+    requires { words ≤ length s.now }
+    ensures { result ≡ answer_sound (load_disjunction_row s.now disjunction literals.entry.variables.now literals.entry.signs.now) }
 {
-    if limits::DISJUNCTIONS as u32 <= disjunction {
-        return Loaded::Refused(refusals::BAD_ID);
+    if limits::DISJUNCTIONS as u32 <= disjunction || !literals_fit(literals) {
+        return Err(Refusal::BadId);
     }
-    if literals_fit(variables, signs) {} else {
-        return Loaded::Refused(refusals::BAD_ID);
+    if is_loaded(s, areas::DISJUNCTION_SIZES, disjunction) {
+        return Err(Refusal::LoadedTwice);
     }
-    if disjunction_loaded(s, disjunction) {
-        return Loaded::Refused(refusals::LOADED_TWICE);
+    if limits::LITERAL_ROOM < wide(areas::LITERAL_COUNT.at(s, 0)) + literals.variables.len() {
+        return Err(Refusal::NoRoom);
     }
-    if limits::LITERAL_ROOM - wide(read::literal_count(s)) < variables.len() {
-        return Loaded::Refused(refusals::NO_ROOM);
-    }
-    Loaded::Done
+    Ok(())
 }
 
 // Writes the literals behind those that are there.
-fn put_literals(s: &mut [u32], disjunction: u32, variables: &[u32], signs: &[u32])
-    requires { (words ≤ length s.old) × (disjunction < disjunctions) × (at literal_count 0 s.old + length variables.now ≤ literal_room) × (length signs.now ≡ length variables.now) }
-    ensures { s.new ≡ literals_put s.old disjunction variables.now signs.now }
+#[tactic(auto, unfolding(crate::specs::Disjunction::literals_put))]
+fn put_literals(s: &mut [u32], disjunction: u32, literals: Lent)
+    requires long { words ≤ length s.old }
+    requires known { disjunction < disjunctions }
+    requires room { at literal_count 0 s.old + length literals.variables.now ≤ literal_room }
+    requires paired { length literals.signs.now ≡ length literals.variables.now }
+    ensures { s.new ≡ literals_put s.old disjunction literals.entry.variables.now literals.entry.signs.now }
 {
-    let start = read::literal_count(s);
-    let n = variables.len() as u32;
-    write::disjunction_start(s, wide(disjunction), start);
-    write::disjunction_size(s, wide(disjunction), n + 1);
-    write::literal_count(s, start + n);
-    lent::set_run(
-        s,
-        areas::LITERAL_VARIABLES,
-        areas::LITERAL_VARIABLES_SIZE,
-        wide(start),
-        variables,
-    );
-    lent::set_run(
-        s,
-        areas::LITERAL_SIGNS,
-        areas::LITERAL_SIGNS_SIZE,
-        wide(start),
-        signs,
-    );
+    let start = areas::LITERAL_COUNT.at(s, 0);
+    let n = literals.variables.len() as u32;
+    areas::DISJUNCTION_STARTS.put(s, wide(disjunction), start);
+    areas::DISJUNCTION_SIZES.put(s, wide(disjunction), n + 1);
+    areas::LITERAL_COUNT.put(s, 0, start + n);
+    areas::LITERAL_VARIABLES.put_run(s, wide(start), literals.variables);
+    areas::LITERAL_SIGNS.put_run(s, wide(start), literals.signs);
 }
 
-pub fn load(s: &mut [u32], disjunction: u32, variables: &[u32], signs: &[u32]) -> Loaded
+#[tactic(auto, using(crate::proofs::DisjunctionLoading::literals_paired), unfolding(crate::specs::Disjunction::load_disjunction_tests))]
+pub fn load(
+    s: &mut [u32],
+    disjunction: u32,
+    variables: &[u32],
+    signs: &[u32],
+) -> Result<(), Refusal>
     requires { Sound s.old }
-    ensures { (result ≡ answer_sound (load_disjunction_row s.old disjunction variables.now signs.now)) × (s.new ≡ left_sound s.old (load_disjunction_row s.old disjunction variables.now signs.now)) }
+    ensures answer { result ≡ answer_sound (load_disjunction_row s.old disjunction variables.now signs.now) }
+    ensures left { s.new ≡ left_sound s.old (load_disjunction_row s.old disjunction variables.now signs.now) }
 {
-    let r = load_case(s, disjunction, variables, signs);
-    match r {
-        Loaded::Done => put_literals(s, disjunction, variables, signs),
-        Loaded::Refused(_) => {}
-    }
-    r
+    let literals = Lent { variables, signs };
+    load_case(s, disjunction, literals)?;
+    put_literals(s, disjunction, literals);
+    Ok(())
 }

@@ -2,38 +2,22 @@
 ghost use Rattle.std.specs.Prelude.{◌≡◌, ◌≤◌, ◌<◌, length};
 ghost use Rattle.store.specs.Layout.{words};
 ghost use Rattle.store.specs.Limits.{unions, union_room};
-ghost use Rattle.store.specs.Shape.{Sound, every};
-ghost use Rattle.tables.specs.Union.{union_loaded, new_at, distinct, members_put, load_union_row};
-ghost use Rattle.tables.specs.VersionSet.{set_loaded};
 ghost use Rattle.store.specs.Row.{answer_sound, left_sound};
+ghost use Rattle.store.specs.Shape.{Sound, every};
+ghost use Rattle.tables.specs.Union.{new_at, distinct, members_put, load_union_row};
+ghost use Rattle.tables.specs.VersionSet.{set_loaded};
 
-use crate::{Loaded, version_set};
-use store::{areas, lent, limits, read, refusals, wide, write};
-
-// Whether a union is loaded; a number out of range never is.
-fn union_loaded(s: &[u32], union: u32) -> bool
-    requires { words ≤ length s.now }
-    ensures { result ≡ union_loaded s.now union }
-{
-    if union < limits::UNIONS as u32 {
-        return 0 < read::union_size(s, wide(union));
-    }
-    false
-}
+use crate::is_loaded;
+use store::{Refusal, areas, limits, wide};
 
 // Whether each member is a loaded version set.
 fn all_loaded(s: &[u32], members: &[u32]) -> bool
     requires { words ≤ length s.now }
     ensures { result ≡ every (set_loaded s.now) members.now }
 {
-    let mut i: usize = 0;
-    while i < members.len() {
-        if version_set::set_loaded(s, members[i]) {} else {
-            return false;
-        }
-        i += 1;
-    }
-    true
+    members
+        .iter()
+        .all(|set| is_loaded(s, areas::SET_NAMES, *set))
 }
 
 // Whether no place before place i of a list holds the same word.
@@ -41,76 +25,56 @@ fn new_at(list: &[u32], i: usize) -> bool
     requires { i < length list.now }
     ensures { result ≡ new_at list.now i }
 {
-    let mut j: usize = 0;
-    while j < i {
-        if list[j] == list[i] {
-            return false;
-        }
-        j += 1;
-    }
-    true
+    !list[..i].contains(&list[i])
 }
 
 // Whether no word of a list stands twice. It looks back, so that a long list of few words ends early.
 fn distinct(list: &[u32]) -> bool
     ensures { result ≡ distinct list.now }
 {
-    let mut i: usize = 0;
-    while i < list.len() {
-        if new_at(list, i) {} else {
-            return false;
-        }
-        i += 1;
-    }
-    true
+    (0..list.len()).all(|i| new_at(list, i))
 }
 
 // What loading would answer.
-fn load_case(s: &[u32], union: u32, members: &[u32]) -> Loaded
+#[tactic(auto, unfolding(crate::specs::Union::load_union_tests))]
+fn load_case(s: &[u32], union: u32, members: &[u32]) -> Result<(), Refusal>
     requires { words ≤ length s.now }
     ensures { result ≡ answer_sound (load_union_row s.now union members.now) }
 {
-    if limits::UNIONS as u32 <= union {
-        return Loaded::Refused(refusals::BAD_ID);
+    if limits::UNIONS as u32 <= union || !all_loaded(s, members) {
+        return Err(Refusal::BadId);
     }
-    if all_loaded(s, members) {} else {
-        return Loaded::Refused(refusals::BAD_ID);
+    if !distinct(members) {
+        return Err(Refusal::Malformed);
     }
-    if distinct(members) {} else {
-        return Loaded::Refused(refusals::MALFORMED);
-    }
-    if union_loaded(s, union) {
-        return Loaded::Refused(refusals::LOADED_TWICE);
+    if is_loaded(s, areas::UNION_SIZES, union) {
+        return Err(Refusal::LoadedTwice);
     }
     if limits::UNION_ROOM < members.len() {
-        return Loaded::Refused(refusals::NO_ROOM);
+        return Err(Refusal::NoRoom);
     }
-    Loaded::Done
+    Ok(())
 }
 
 // Writes the members into the union's eight places.
+#[tactic(auto, unfolding(crate::specs::Union::members_put))]
 fn put_members(s: &mut [u32], union: u32, members: &[u32])
-    requires { (words ≤ length s.old) × (union < unions) × (length members.now ≤ union_room) }
+    requires long { words ≤ length s.old }
+    requires known { union < unions }
+    requires few { length members.now ≤ union_room }
     ensures { s.new ≡ members_put s.old union members.now }
 {
-    write::union_size(s, wide(union), members.len() as u32 + 1);
-    lent::set_run(
-        s,
-        areas::UNION_SETS,
-        areas::UNION_SETS_SIZE,
-        limits::UNION_ROOM * wide(union),
-        members,
-    );
+    areas::UNION_SIZES.put(s, wide(union), members.len() as u32 + 1);
+    areas::UNION_SETS.put_run(s, limits::UNION_ROOM * wide(union), members);
 }
 
-pub fn load(s: &mut [u32], union: u32, members: &[u32]) -> Loaded
+#[tactic(auto, unfolding(crate::specs::Union::load_union_tests))]
+pub fn load(s: &mut [u32], union: u32, members: &[u32]) -> Result<(), Refusal>
     requires { Sound s.old }
-    ensures { (result ≡ answer_sound (load_union_row s.old union members.now)) × (s.new ≡ left_sound s.old (load_union_row s.old union members.now)) }
+    ensures answer { result ≡ answer_sound (load_union_row s.old union members.now) }
+    ensures left { s.new ≡ left_sound s.old (load_union_row s.old union members.now) }
 {
-    let r = load_case(s, union, members);
-    match r {
-        Loaded::Done => put_members(s, union, members),
-        Loaded::Refused(_) => {}
-    }
-    r
+    load_case(s, union, members)?;
+    put_members(s, union, members);
+    Ok(())
 }

@@ -1,19 +1,13 @@
-use mathlib.Core.Path.{refl}
+use Rattle.std.proofs.Common.{rules, tests}
+use Rattle.std.proofs.lemmas.Iterator.{YieldsList-from_range}
+use Rattle.std.proofs.lemmas.Iterator.Consumers.{YieldsList-from_filter, count_from_yields_List}
+use mathlib.Core.Path.{◌∙◌}
 use native.Mathlib.Omega.{arith}
-use borrow.Author.Rules.{rules}
-use Rattle.clauses.proofs.Naming.{name-counts, names-done, count_small}
-use Rattle.clauses.specs.Names.{new_names}
+use Rattle.clauses.proofs.Naming.{names_counted}
+use Rattle.clauses.specs.Names.{new_name}
 use Rattle.clauses.proofs.registering.new_names.Goals as goal
 
-pub loop-i-init : goal.loop-i-init
-unfolding new_names
-loop-i-init c = (search rules, refl)
-
-pub overflow_add-count : goal.overflow_add-count
-overflow_add-count c = let l = count_small _ _ _ _ _ c.loop-i.invariant.1 c.name_count-count.ensures in omega (arith, l)
-
-pub loop-i-preserved : goal.loop-i-preserved
-loop-i-preserved c = (search rules, name-counts _ _ _ _ _ c.loop-i.invariant.1 c.name_count-count.ensures)
-
 pub returns : goal.returns
-returns c = names-done _ _ _ _ _ c.loop-i.invariant.1 (omega arith)
+returns c =
+    count_from_yields_List _ _ c.count.ensures.ran (YieldsList-from_filter _ (new_name c.args.s.now c.args.first) (YieldsList-from_range 0 c.args.n c.args.n (cc) (omega arith)) c.filter.ensures.closure (λ x b q k. search (rules, tests)))
+    ∙ names_counted _ _ _

@@ -1,18 +1,15 @@
-use mathlib.Core.Path.{sym, ap, ◌∙◌}
+use Rattle.std.proofs.Common.{rules, tests}
+use Rattle.std.proofs.lemmas.Iterator.{YieldsList-from_range}
+use Rattle.std.proofs.lemmas.Iterator.Search.{all_from_yields_List}
+use mathlib.Core.Path.{refl, ◌∙◌}
 use native.Mathlib.Omega.{arith}
-use Rattle.examine.proofs.Literals.{literals_fail, literals_next, literals_end}
-use Rattle.rules.proofs.Froms.{from_begin}
-use Rattle.rules.specs.Walk.{all_false}
+use Rattle.meaning.specs.View.{literal_at}
+use Rattle.rules.specs.Walk.{literal_false}
+use Rattle.trail.specs.Assignment.{assigned}
+use Rattle.examine.proofs.Literals.{all_false_is}
 use Rattle.examine.proofs.condition.all_false.Goals as goal
 
-pub loop-i-init : goal.loop-i-init
-loop-i-init c = (omega arith, ap (all_false _) (from_begin _ _ _))
-
-pub returns-else-literal_false : goal.returns-else-literal_false
-returns-else-literal_false c = literals_fail _ _ _ _ _ c.loop-i.invariant.1 c.loop-i-test.true (sym c.literal_false.ensures ∙ c.if-literal_false.false)
-
-pub loop-i-preserved : goal.loop-i-preserved
-loop-i-preserved c = (omega arith, literals_next _ _ _ _ _ c.loop-i.invariant.1 c.loop-i-test.true (sym c.literal_false.ensures ∙ c.if-literal_false.true))
-
 pub returns : goal.returns
-returns c = literals_end _ _ _ _ _ c.loop-i.invariant.1 c.loop-i-test.false
+returns c =
+    all_from_yields_List (λ i. literal_false (assigned c.args.s.now) (literal_at c.args.s.now i)) _ _ _ c.all.ensures.ran (YieldsList-from_range c.args.start _ c.args.n refl (omega arith)) (λ x b q k. search (rules, tests))
+    ∙ all_false_is _ _ _ _

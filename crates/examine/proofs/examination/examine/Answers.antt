@@ -4,30 +4,37 @@ use Rattle.meaning.proofs.Records.{clause-inside, requirement-below}
 use Rattle.examine.proofs.examination.examine.Goals as goal
 
 pub clause_at-clause-requires : goal.clause_at-clause-requires
-clause_at-clause-requires c = (c.requires.0, clause-inside _ c.requires.0 _ c.requires.1)
+clause_at-clause-requires c = record { sound = c.requires.sound; known = clause-inside _ c.requires.sound _ c.requires.known }
 
-pub is_active-requires : goal.is_active-requires
-is_active-requires c = (c.requires.0, record_parent _ c.requires.0 _ c.requires.1 _ c.clause_at-clause.ensures, record_condition _ c.requires.0 _ c.requires.1 _ c.clause_at-clause.ensures)
+pub is_active-requires-clause-parent_known : goal.is_active-requires-clause-parent_known
+is_active-requires-clause-parent_known c = record_parent _ c.requires.sound _ c.requires.known _ c.clause_at-clause.ensures
 
-pub recall-cache-requires : goal.recall-cache-requires
-recall-cache-requires c = (c.requires.0.long, requirement-below _ c.requires.0 _ _ (record_key _ c.requires.0 _ c.requires.1 _ c.clause_at-clause.ensures _ c.key_of-key.ensures))
+pub is_active-requires-clause-condition_known : goal.is_active-requires-clause-condition_known
+is_active-requires-clause-condition_known c = record_condition _ c.requires.sound _ c.requires.known _ c.clause_at-clause.ensures
 
-pub eval_at-state-requires : goal.eval_at-state-requires
-eval_at-state-requires c = (c.requires.0, requirement-below _ c.requires.0 _ _ (record_key _ c.requires.0 _ c.requires.1 _ c.clause_at-clause.ensures _ c.key_of-key.ensures))
+pub returns-then-not-is_active : goal.returns-then-not-is_active
+returns-then-not-is_active c =
+    let e = examine_shut _ _ (sym (record_active _ c.requires.sound _ c.requires.known _ c.clause_at-clause.ensures) ∙ sym c.is_active.ensures ∙ c.if-not-is_active.true) in
+    record { found = e.0; left = e.1 }
 
-pub save-requires : goal.save-requires
-save-requires c = (c.requires.0.long, requirement-below _ c.requires.0 _ _ (record_key _ c.requires.0 _ c.requires.1 _ c.clause_at-clause.ensures _ c.key_of-key.ensures))
+pub recall-requires-clause-known : goal.recall-requires-clause-known
+recall-requires-clause-known c = requirement-below _ c.requires.sound _ _ (record_key _ c.requires.sound _ c.requires.known _ c.clause_at-clause.ensures _ c.key-key.ensures)
 
-pub returns-in-Known : goal.returns-in-Known
-returns-in-Known c =
-    examine-known _ _ c.requires.1 _ (record_key _ c.requires.0 _ c.requires.1 _ c.clause_at-clause.ensures _ c.key_of-key.ensures)
-    (sym (record_active _ c.requires.0 _ c.requires.1 _ c.clause_at-clause.ensures) ∙ sym c.is_active.ensures ∙ c.if-is_active.true) _ _ c.finding_of.ensures (sym c.recall-cache.ensures ∙ c.in-Known.is)
+pub eval_at-state-requires-clause-known : goal.eval_at-state-requires-clause-known
+eval_at-state-requires-clause-known c = requirement-below _ c.requires.sound _ _ (record_key _ c.requires.sound _ c.requires.known _ c.clause_at-clause.ensures _ c.key-key.ensures)
 
-pub returns-in-Dirty : goal.returns-in-Dirty
-returns-in-Dirty c =
-    examine-dirty _ _ c.requires.1 _ (record_key _ c.requires.0 _ c.requires.1 _ c.clause_at-clause.ensures _ c.key_of-key.ensures)
-    (sym (record_active _ c.requires.0 _ c.requires.1 _ c.clause_at-clause.ensures) ∙ sym c.is_active.ensures ∙ c.if-is_active.true) _ _ c.finding_of-in-Dirty.ensures _ (sym c.recall-cache.ensures ∙ c.in-Dirty.is)
-    c.eval_at-state.ensures c.save.ensures
+pub save-requires-clause-known : goal.save-requires-clause-known
+save-requires-clause-known c = requirement-below _ c.requires.sound _ _ (record_key _ c.requires.sound _ c.requires.known _ c.clause_at-clause.ensures _ c.key-key.ensures)
 
-pub returns-else-is_active : goal.returns-else-is_active
-returns-else-is_active c = examine_shut _ _ (sym (record_active _ c.requires.0 _ c.requires.1 _ c.clause_at-clause.ensures) ∙ sym c.is_active.ensures ∙ c.if-is_active.false)
+pub returns-in-Some : goal.returns-in-Some
+returns-in-Some c =
+    let e = examine-known _ _ c.requires.known _ (record_key _ c.requires.sound _ c.requires.known _ c.clause_at-clause.ensures _ c.key-key.ensures)
+    (sym (record_active _ c.requires.sound _ c.requires.known _ c.clause_at-clause.ensures) ∙ sym c.is_active.ensures ∙ c.if-not-is_active.false) _ _ c.from.ensures (sym c.recall.ensures ∙ c.in-Some.is) in
+    record { found = e.0; left = e.1 }
+
+pub returns-in-None : goal.returns-in-None
+returns-in-None c =
+    let e = examine-dirty _ _ c.requires.known _ (record_key _ c.requires.sound _ c.requires.known _ c.clause_at-clause.ensures _ c.key-key.ensures)
+    (sym (record_active _ c.requires.sound _ c.requires.known _ c.clause_at-clause.ensures) ∙ sym c.is_active.ensures ∙ c.if-not-is_active.false) _ _ c.from-in-None.ensures _ (sym c.recall.ensures ∙ c.in-None.is)
+    c.eval_at-state.ensures c.save.ensures in
+    record { found = e.0; left = e.1 }

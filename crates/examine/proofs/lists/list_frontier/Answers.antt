@@ -1,17 +1,34 @@
-use mathlib.Core.Path.{sym, ◌∙◌}
-use Rattle.meaning.proofs.Reading.{span_of}
+use Rattle.std.proofs.Common.{rules, tests}
+use Rattle.std.proofs.lemmas.Iterator.{YieldsList-from_slice}
+use Rattle.std.proofs.lemmas.Iterator.Consumers.{YieldsList-from_copied}
+use Rattle.std.proofs.lemmas.Iterator.Search.{find_from_yields_List}
+use Rattle.std.proofs.lemmas.Iterator.Adapters.{option_map_id}
+use Rattle.std.proofs.iter.runs.Made.{chains}
+use Rattle.std.specs.List.{find, count_by}
+use mathlib.Core.Path.{◌≡◌, ap, sym, ◌∙◌}
+use native.Mathlib.Omega.{arith}
+use lib.ListN.{length}
+use Rattle.examine.proofs.Cells.{found_is, counted_is}
 use Rattle.examine.proofs.Scans.{list_first, list_dead}
+use Rattle.examine.proofs.Small.{undecided_in, cells-few, count_most}
+use Rattle.rules.specs.Walk.{count_undecided}
 use Rattle.trail.specs.Assignment.{assigned}
 use Rattle.examine.proofs.lists.list_frontier.Goals as goal
 
-pub first_undecided-found-requires : goal.first_undecided-found-requires
-first_undecided-found-requires c = (c.requires.0, span_of _ _ _ _ c.requires.0 c.requires.1 (c.wide-start.ensures ∙ c.list_start.ensures) (c.wide-len.ensures ∙ c.list_length.ensures))
+counted : (c : goal.After-count-count) → c.count-count.result ≡ count_undecided (assigned c.args.s.now) c.candidates_of-cells.result.now
+counted c =
+    let found : c.count-count.result ≡ count_by (undecided_in c.args.s.now) c.candidates_of-cells.result.now = search (rules, chains) in
+    found ∙ counted_is _ _
 
-pub count_undecided-count-requires : goal.count_undecided-count-requires
-count_undecided-count-requires c = (c.requires.0, span_of _ _ _ _ c.requires.0 c.requires.1 (c.wide-start.ensures ∙ c.list_start.ensures) (c.wide-len.ensures ∙ c.list_length.ensures))
+pub overflow_cast-result : goal.overflow_cast-result
+overflow_cast-result c = omega (arith, counted c, count_most (assigned c.args.s.now) c.candidates_of-cells.result.now, ap length c.candidates_of-cells.ensures.cells, cells-few c.args.s.now c.requires.sound c.args.slot)
 
-pub returns-in-At : goal.returns-in-At
-returns-in-At c = list_first (assigned c.args.s.now) c.args.s.now _ _ _ (c.wide-start.ensures ∙ c.list_start.ensures) (c.wide-len.ensures ∙ c.list_length.ensures) _ _ _ (sym c.first_undecided-found.ensures ∙ c.in-At.is) c.name_at-name.ensures c.count_undecided-count.ensures
+pub returns-in-Some : goal.returns-in-Some
+returns-in-Some c =
+    let found : c.find.result ≡ find (undecided_in c.args.s.now) c.candidates_of-cells.result.now = sym (option_map_id _) ∙ find_from_yields_List (undecided_in c.args.s.now) _ _ c.find.result c.find.ensures.ran (YieldsList-from_copied (YieldsList-from_slice _ (cc))) (λ x b q k. search (rules, tests)) in
+    list_first (assigned c.args.s.now) c.args.s.now _ _ c.candidates_of-cells.ensures.cells _ _ _ (sym (found ∙ found_is _ _) ∙ c.in-Some.is) c.name_at-name.ensures (counted c)
 
-pub returns-in-Nowhere : goal.returns-in-Nowhere
-returns-in-Nowhere c = list_dead (assigned c.args.s.now) c.args.s.now _ _ _ (c.wide-start.ensures ∙ c.list_start.ensures) (c.wide-len.ensures ∙ c.list_length.ensures) (sym c.first_undecided-found.ensures ∙ c.in-Nowhere.is)
+pub returns-in-None : goal.returns-in-None
+returns-in-None c =
+    let found : c.find.result ≡ find (undecided_in c.args.s.now) c.candidates_of-cells.result.now = sym (option_map_id _) ∙ find_from_yields_List (undecided_in c.args.s.now) _ _ c.find.result c.find.ensures.ran (YieldsList-from_copied (YieldsList-from_slice _ (cc))) (λ x b q k. search (rules, tests)) in
+    list_dead (assigned c.args.s.now) c.args.s.now _ _ c.candidates_of-cells.ensures.cells (sym (found ∙ found_is _ _) ∙ c.in-None.is)

@@ -1,20 +1,20 @@
-use mathlib.Core.Path.{◌∙◌}
+use Rattle.std.proofs.Common.{rules, tests}
+use Rattle.std.proofs.lemmas.Iterator.{YieldsList-from_range}
+use Rattle.std.proofs.lemmas.Iterator.Search.{any_from_yields_List}
+use mathlib.Core.Path.{refl, ◌∙◌}
 use Rattle.meaning.proofs.Records.{clause-inside, requirement-below}
-use Rattle.meaning.proofs.Reading.{slots-of}
-use Rattle.proposal.proofs.Steps.{hot-is}
+use Rattle.meaning.specs.Standing.{env_of}
+use Rattle.requirement.specs.Tables.{name_of, set_of}
+use Rattle.proposal.proofs.Steps.{any_hot_is, hot-is}
 use Rattle.proposal.proofs.decide_queue.is_hot.Goals as goal
 
-pub requirement-requires : goal.requirement-requires
-requirement-requires c = (c.requires.0.long, clause-inside _ c.requires.0 _ c.requires.1)
+pub at-requires-clause-inside : goal.at-requires-clause-inside
+at-requires-clause-inside c = clause-inside _ c.requires.sound _ c.requires.known
 
-pub first_slot-slot-requires : goal.first_slot-slot-requires
-first_slot-slot-requires c = requirement-below _ c.requires.0 _ _ (c.wide-key.ensures ∙ c.requirement.ensures)
-
-pub list_count-n-requires : goal.list_count-n-requires
-list_count-n-requires c = (c.requires.0.long, requirement-below _ c.requires.0 _ _ (c.wide-key.ensures ∙ c.requirement.ensures))
-
-pub any_hot-requires : goal.any_hot-requires
-any_hot-requires c = (c.requires.0, slots-of _ _ _ _ c.requires.0 (requirement-below _ c.requires.0 _ _ (c.wide-key.ensures ∙ c.requirement.ensures)) c.first_slot-slot.ensures c.list_count-n.ensures)
+pub slots_of-requires-clause-known : goal.slots_of-requires-clause-known
+slots_of-requires-clause-known c = requirement-below _ c.requires.sound _ _ (c.wide-key.ensures ∙ c.at.ensures)
 
 pub returns : goal.returns
-returns c = c.any_hot.ensures ∙ hot-is _ _ _ _ _ c.requires.1 (c.wide-key.ensures ∙ c.requirement.ensures) c.first_slot-slot.ensures c.list_count-n.ensures
+returns c =
+    any_from_yields_List (λ i. (env_of c.args.s.now).hot (name_of c.args.s.now (set_of c.args.s.now i))) _ _ _ c.any.ensures.ran (YieldsList-from_range c.slots_of.result.start c.slots_of.result.end _ refl refl) (λ x b q k. search (rules, tests))
+    ∙ any_hot_is c.args.s.now _ _ ∙ hot-is _ _ _ _ c.requires.known (c.wide-key.ensures ∙ c.at.ensures) c.slots_of.ensures.whole

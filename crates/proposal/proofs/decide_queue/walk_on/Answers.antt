@@ -6,46 +6,37 @@ use Rattle.rules.specs.declared.Out.TheVariants.{Choose}
 use Rattle.proposal.proofs.decide_queue.walk_on.Goals as goal
 
 pub returns-then-first-eq1 : goal.returns-then-first-eq1
-returns-then-first-eq1 c = as_told _ _ _ _ _ c.chosen.ensures (one_ends _ _ _ _ c.requires.0 c.requires.1 c.requires.2 c.requires.3 c.if-first-eq1.true) (sane_choose _ _ c.requires.2)
-
-pub clause_count-n-requires : goal.clause_count-n-requires
-clause_count-n-requires c = c.requires.0.long
-
-pub top-highest-requires : goal.top-highest-requires
-top-highest-requires c = c.requires.0
-
-pub next_queued-k-requires : goal.next_queued-k-requires
-next_queued-k-requires c = (c.requires.0, omega (arith, c.clause_count-n.ensures, c.requires.1), c.clause_count-n.ensures)
+returns-then-first-eq1 c = let e = as_told _ _ _ _ _ c.chosen.ensures (one_ends _ _ _ _ c.requires.sound c.requires.upto c.requires.fine c.requires.few c.if-first-eq1.true) (sane_choose _ _ c.requires.fine) in record { walks = e.0; sane = e.1 }
 
 pub loop-k-init : goal.loop-k-init
-loop-k-init c = stage_next _ _ _ _ (Choose _) _ _ (stage_begin _ _ _ (Choose _) _ c.requires.0 c.clause_count-n.ensures c.requires.1 (sane_choose _ _ c.requires.2) c.requires.3) _ c.next_queued-k.ensures
+loop-k-init c = stage_next _ _ _ _ (Choose _) _ _ (stage_begin _ _ _ (Choose _) _ c.requires.sound c.at-n.ensures c.requires.upto (sane_choose _ _ c.requires.fine) c.requires.few) _ c.next_queued-k.ensures
 
-pub weigh-x-requires : goal.weigh-x-requires
-weigh-x-requires c = weigh_ready _ _ _ _ _ _ _ c.loop-k.invariant.0 c.loop-k-test.true _ c.top-highest.ensures
+pub weigh-requires : goal.weigh-requires
+weigh-requires c = let r = weigh_ready _ _ _ _ _ _ _ c.loop-k.invariant.0 c.loop-k-test.true _ c.top-highest.ensures in record { sound = r.0; known = r.1; fine = r.2; the_highest = r.3 }
 
 pub overflow_add-d : goal.overflow_add-d
-overflow_add-d c = let e = weighed_on _ _ _ _ _ _ _ c.loop-k.invariant.0 c.loop-k-test.true (c.loop-k.invariant.1 c.loop-k-test.true) _ c.weigh-x.ensures.1 _ _ (sym c.weigh-x.ensures.0 ∙ c.in-On.is) in omega (arith, e.drops, e.upto, e.few)
+overflow_add-d c = let e = weighed_on _ _ _ _ _ _ _ c.loop-k.invariant.0 c.loop-k-test.true (c.loop-k.invariant.1 c.loop-k-test.true) _ c.weigh.ensures.left _ _ (sym c.weigh.ensures.weighs ∙ c.in-On.is) in omega (arith, e.drops, e.upto, e.few)
 
 pub returns-in-Enough : goal.returns-in-Enough
-returns-in-Enough c = as_told _ _ _ _ _ c.chosen-in-Enough.ensures (weighed_enough _ _ _ _ _ _ _ c.loop-k.invariant.0 c.loop-k-test.true (c.loop-k.invariant.1 c.loop-k-test.true) _ c.weigh-x.ensures.1 (sym c.weigh-x.ensures.0 ∙ c.in-Enough.is)) c.loop-k.invariant.0.sane
+returns-in-Enough c = let e = as_told _ _ _ _ _ c.chosen-in-Enough.ensures (weighed_enough _ _ _ _ _ _ _ c.loop-k.invariant.0 c.loop-k-test.true (c.loop-k.invariant.1 c.loop-k-test.true) _ c.weigh.ensures.left (sym c.weigh.ensures.weighs ∙ c.in-Enough.is)) c.loop-k.invariant.0.sane in record { walks = e.0; sane = e.1 }
 
 pub died-requires : goal.died-requires
-died-requires c = ((weighed-beside _ _ _ _ _ _ _ c.loop-k.invariant.0 c.loop-k-test.true (c.loop-k.invariant.1 c.loop-k-test.true) _ c.weigh-x.ensures.1).sound.long, omega (arith, c.loop-k-test.true, c.loop-k.invariant.0.few))
+died-requires c = record { long = (weighed-beside _ _ _ _ _ _ _ c.loop-k.invariant.0 c.loop-k-test.true (c.loop-k.invariant.1 c.loop-k-test.true) _ c.weigh.ensures.left).sound.long; known = omega (arith, c.loop-k-test.true, c.loop-k.invariant.0.few) }
 
 pub returns-in-Dead : goal.returns-in-Dead
-returns-in-Dead c = as_told _ _ _ _ _ c.died.ensures (weighed-dead _ _ _ _ _ _ _ c.loop-k.invariant.0 c.loop-k-test.true (c.loop-k.invariant.1 c.loop-k-test.true) _ c.weigh-x.ensures.1 (sym c.weigh-x.ensures.0 ∙ c.in-Dead.is)) (sane-dead _ _)
+returns-in-Dead c = let e = as_told _ _ _ _ _ c.died.ensures (weighed-dead _ _ _ _ _ _ _ c.loop-k.invariant.0 c.loop-k-test.true (c.loop-k.invariant.1 c.loop-k-test.true) _ c.weigh.ensures.left (sym c.weigh.ensures.weighs ∙ c.in-Dead.is)) (sane-dead _ _) in record { walks = e.0; sane = e.1 }
 
 pub overflow_add-k : goal.overflow_add-k
 overflow_add-k c = omega (arith, c.loop-k-test.true, c.loop-k.invariant.0.few)
 
 pub next_queued-k-requires-in-loop-k : goal.next_queued-k-requires-in-loop-k
-next_queued-k-requires-in-loop-k c = next_ready _ _ _ _ (weighed-beside _ _ _ _ _ _ _ c.loop-k.invariant.0 c.loop-k-test.true (c.loop-k.invariant.1 c.loop-k-test.true) _ c.weigh-x.ensures.1) (omega (arith, c.loop-k-test.true)) c.loop-k.invariant.0.size
+next_queued-k-requires-in-loop-k c = let r = next_ready _ _ _ _ (weighed-beside _ _ _ _ _ _ _ c.loop-k.invariant.0 c.loop-k-test.true (c.loop-k.invariant.1 c.loop-k-test.true) _ c.weigh.ensures.left) (omega (arith, c.loop-k-test.true)) c.loop-k.invariant.0.size in record { sound = r.0; upto = r.1; the_count = r.2 }
 
 pub loop-k-smaller : goal.loop-k-smaller
 loop-k-smaller c = next_less _ _ _ _ c.loop-k-test.true c.next_queued-k-in-loop-k.ensures
 
 pub loop-k-preserved : goal.loop-k-preserved
-loop-k-preserved c = stage_next _ _ _ _ _ _ _ (weighed_on _ _ _ _ _ _ _ c.loop-k.invariant.0 c.loop-k-test.true (c.loop-k.invariant.1 c.loop-k-test.true) _ c.weigh-x.ensures.1 _ _ (sym c.weigh-x.ensures.0 ∙ c.in-On.is)) _ c.next_queued-k-in-loop-k.ensures
+loop-k-preserved c = stage_next _ _ _ _ _ _ _ (weighed_on _ _ _ _ _ _ _ c.loop-k.invariant.0 c.loop-k-test.true (c.loop-k.invariant.1 c.loop-k-test.true) _ c.weigh.ensures.left _ _ (sym c.weigh.ensures.weighs ∙ c.in-On.is)) _ c.next_queued-k-in-loop-k.ensures
 
 pub returns : goal.returns
-returns c = as_told _ _ _ _ _ c.chosen-2.ensures (stage_ends _ _ _ _ _ _ _ c.loop-k.invariant.0 c.loop-k-test.false) c.loop-k.invariant.0.sane
+returns c = let e = as_told _ _ _ _ _ c.chosen-2.ensures (stage_ends _ _ _ _ _ _ _ c.loop-k.invariant.0 c.loop-k-test.false) c.loop-k.invariant.0.sane in record { walks = e.0; sane = e.1 }

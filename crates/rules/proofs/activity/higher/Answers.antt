@@ -1,4 +1,4 @@
-use Rattle.std.proofs.Common.{refl, arith}
+use Rattle.std.proofs.Common.{arith}
 use Rattle.rules.proofs.FloatOrder.{order, no_nan_bits}
 use Rattle.rules.proofs.activity.higher.Goals as goal
 
@@ -8,5 +8,5 @@ float_from_bits-result c = no_nan_bits _ (omega arith)
 pub float_from_bits-result-2 : goal.float_from_bits-result-2
 float_from_bits-result-2 c = no_nan_bits _ (omega arith)
 
-pub returns : goal.returns
-returns c = (refl, order _ _ (omega arith) (omega arith))
+pub returns-clause-as_bits : goal.returns-clause-as_bits
+returns-clause-as_bits c = order _ _ (omega arith) (omega arith)

@@ -6,4 +6,4 @@ use Rattle.store.proofs.fresh.fill.Goals as goal
 
 pub returns : goal.returns
 unfolding fresh_words
-returns c = c.mode.ensures ∙ ap (put mode 0 1) c.set_blank.ensures
+returns c = c.put.ensures ∙ ap (put mode 0 1) c.blank.ensures

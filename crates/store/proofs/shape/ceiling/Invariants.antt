@@ -1,9 +1,5 @@
-use Prim.Native.Nat.{◌-◌}
 use Rattle.store.proofs.Counting.{Covered}
 use Rattle.store.proofs.shape.ceiling.Given as goal
 
-abbrev pub invariant-loop-i : goal.invariant-loop-i
-invariant-loop-i l = Covered (record { base = l.base; size = l.n }) l.s l.i l.all
-
-abbrev pub decreases-loop-i : goal.decreases-loop-i
-decreases-loop-i l = l.n - l.i
+abbrev pub invariant-loop-x : goal.invariant-loop-x
+invariant-loop-x l = Covered l.list l.x-index l.all

@@ -1,10 +1,7 @@
-use Prim.Native.Nat.{◌-◌}
-use Rattle.store.proofs.Counting.{Counted, passes}
+use Rattle.std.proofs.Common.{length, get_or}
+use Rattle.store.proofs.Counting.{Counted}
 use Rattle.store.specs.Shape.{up_to}
 use Rattle.store.proofs.shape.none_above.Given as goal
 
-abbrev pub invariant-loop-i : goal.invariant-loop-i
-invariant-loop-i l = Counted (passes (up_to l.most) (record { base = l.base; size = l.n }) l.s) l.n l.i l.bad
-
-abbrev pub decreases-loop-i : goal.decreases-loop-i
-decreases-loop-i l = l.n - l.i
+abbrev pub invariant-loop-x : goal.invariant-loop-x
+invariant-loop-x l = Counted (λ k. up_to l.most (get_or l.list k 0)) (length l.list) l.x-index l.bad

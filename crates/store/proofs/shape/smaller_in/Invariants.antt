@@ -1,9 +1,6 @@
-use Prim.Native.Nat.{◌-◌}
-use Rattle.store.proofs.Counting.{Counted, small_at}
+use Rattle.std.proofs.Common.{length, get_or, leb}
+use Rattle.store.proofs.Counting.{Counted}
 use Rattle.store.proofs.shape.smaller_in.Given as goal
 
 abbrev pub invariant-loop-i : goal.invariant-loop-i
-invariant-loop-i l = Counted (small_at (record { base = l.base; size = l.n }) l.s) l.n l.i l.bad
-
-abbrev pub decreases-loop-i : goal.decreases-loop-i
-decreases-loop-i l = l.n - l.i
+invariant-loop-i l = Counted (λ k. leb (get_or l.list k 0) k) (length l.list) l.i l.bad

@@ -1,24 +1,16 @@
-use mathlib.Core.Path.{refl, ◌∙◌}
+use mathlib.Core.Path.{◌≡◌, refl, ap, ◌∙◌}
+use Prim.Native.Nat.{◌+◌, ◌*◌}
 use native.Mathlib.Omega.{arith}
-use Rattle.sync.proofs.Turns.{spoiling_none, spoiling_length, spoiling_sound, spoiling_block, spoiling_done, dirty-block}
-use Rattle.sync.specs.Table.{in_table}
+use Rattle.sync.proofs.Turns.{spoiling_block, spoiling_done, dirty-block}
+use Rattle.sync.specs.Sync.{block, spoiled_from}
 use Rattle.sync.proofs.decide_queue.spoil_caches.Goals as goal
-use Rattle.sync.proofs.decide_queue.spoil_caches.Goals.{then-all_dirty, else-all_dirty}
+use Rattle.sync.proofs.decide_queue.spoil_caches.Goals.{then-not-all_dirty, else-not-all_dirty}
 
-pub loop-from-init : goal.loop-from-init
-loop-from-init c = (omega arith, refl, spoiling_none _ (in_table c.args.t.now) 0)
-
-pub all_dirty-requires : goal.all_dirty-requires
-all_dirty-requires c = (spoiling_sound _ (in_table c.args.t.now) _ 0 _ c.requires c.loop-from.invariant.0 c.loop-from.invariant.2, omega (arith, c.loop-from.invariant.1))
-
-pub spoil_block-requires : goal.spoil_block-requires
-spoil_block-requires c = (spoiling_sound _ (in_table c.args.t.now) _ 0 _ c.requires c.loop-from.invariant.0 c.loop-from.invariant.2, omega (arith, c.loop-from.invariant.1))
-
-pub loop-from-preserved : goal.loop-from-preserved
-loop-from-preserved c = (omega (arith, c.loop-from.invariant.1), omega (arith, c.loop-from.invariant.1), spoiling_block _ (in_table c.args.t.now) _ 0 _ c.requires c.loop-from.invariant.0 c.loop-from.invariant.2 (omega arith) _ (elim c.if-all_dirty.branch [ then-all_dirty w ↦ w.s-is ∙ dirty-block _ _ _ (c.all_dirty.ensures w.if-all_dirty.true) | else-all_dirty w ↦ w.s-is ∙ w.spoil_block.ensures ]))
-
-pub shape_of-s : goal.shape_of-s
-shape_of-s c = spoiling_length _ (in_table c.args.t.now) _ 0 _ c.requires c.loop-from.invariant.0 c.loop-from.invariant.2
+pub loop-i-preserved : goal.loop-i-preserved
+loop-i-preserved c =
+    let next : c.loop-i.i * block + block ≡ (c.loop-i.i + 1) * block = omega arith in
+    spoiling_block _ c.args.touched.now _ 0 _ c.requires (omega arith) c.loop-i.invariant (omega arith) _ (elim c.if-not-all_dirty.branch [ then-not-all_dirty w ↦ w.s-is ∙ w.spoil_block.ensures | else-not-all_dirty w ↦ w.s-is ∙ dirty-block _ _ _ (c.all_dirty.ensures w.if-not-all_dirty.false) ])
+    ∙ ap (spoiled_from 0 _ c.args.touched.now) next
 
 pub returns : goal.returns
-returns c = spoiling_done _ (in_table c.args.t.now) _ 0 _ c.requires c.loop-from.invariant.0 c.loop-from.invariant.2 refl c.loop-from-test.false
+returns c = spoiling_done _ c.args.touched.now _ 0 _ c.requires (omega arith) c.loop-i.invariant refl (omega arith)

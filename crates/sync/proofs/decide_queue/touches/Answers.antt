@@ -1,12 +1,7 @@
 use native.Mathlib.Omega.{arith}
 use Rattle.store.specs.Layout.{mirror_length, trail_length}
 use Rattle.store.specs.Limits.{trail_room}
-use Rattle.sync.specs.Sync.{touches_in}
 use Rattle.sync.proofs.decide_queue.touches.Goals as goal
 
 pub overflow_add-result : goal.overflow_add-result
-overflow_add-result c = omega (arith, c.mirror_length.ensures, c.length.ensures, c.requires.ranges mirror_length trail_room tt 0, c.requires.ranges trail_length trail_room tt 0)
-
-pub returns : goal.returns
-unfolding touches_in
-returns c = rw (c.floor-floor.ensures, c.mirror_length.ensures, c.length.ensures)
+overflow_add-result c = omega (arith, c.at.ensures, c.length.ensures, c.requires.ranges mirror_length trail_room tt 0, c.requires.ranges trail_length trail_room tt 0)

@@ -1,10 +1,14 @@
-use mathlib.Core.Path.{◌∙◌}
-use Rattle.meaning.proofs.Reading.{slots-of}
-use Rattle.sync.proofs.Occurring.{requirement-lists}
+use Rattle.std.proofs.Common.{rules, tests}
+use Rattle.std.proofs.lemmas.Iterator.{YieldsList-from_range}
+use Rattle.std.proofs.lemmas.Iterator.Search.{any_from_yields_List}
+use mathlib.Core.Path.{refl, ap, ◌∙◌}
+use Rattle.requirement.specs.Tables.{cells_of}
+use Rattle.rules.specs.Sync.{meets}
+use Rattle.rules.specs.Walk.{flattened}
+use Rattle.sync.proofs.Occurring.{lists_any}
 use Rattle.sync.proofs.occurrences.in_requirement.Goals as goal
 
-pub in_lists-requires : goal.in_lists-requires
-in_lists-requires c = (c.requires.0, slots-of _ _ _ _ c.requires.0 c.requires.1 c.first_slot-slot.ensures c.list_count-n.ensures)
-
 pub returns : goal.returns
-returns c = c.in_lists.ensures ∙ requirement-lists _ _ _ _ _ c.first_slot-slot.ensures c.list_count-n.ensures
+returns c =
+    any_from_yields_List (λ i. meets c.args.touched.now (cells_of c.args.s.now i)) _ _ _ c.any.ensures.ran (YieldsList-from_range c.slots_of.result.start c.slots_of.result.end _ refl refl) (λ x b q k. search (rules, tests))
+    ∙ lists_any c.args.touched.now c.args.s.now _ _ ∙ ap (λ cs. meets c.args.touched.now (flattened cs)) c.slots_of.ensures.whole

@@ -1,17 +1,12 @@
-use mathlib.Core.Path.{refl, sym, ◌∙◌}
-use native.Mathlib.Omega.{arith}
-use borrow.Author.Rules.{rules}
-use Rattle.store.proofs.Runs.{every_fails, every_more, every_ends}
+use Rattle.std.proofs.Common.{rules, tests}
+use Rattle.std.proofs.lemmas.Iterator.{YieldsList-from_slice}
+use Rattle.std.proofs.lemmas.Iterator.Search.{all_from_yields_List}
+use mathlib.Core.Path.{◌∙◌}
+use Rattle.store.proofs.Runs.{every_is}
+use Rattle.tables.specs.VersionSet.{set_loaded}
 use Rattle.tables.proofs.version_union.all_loaded.Goals as goal
 
-pub loop-i-init : goal.loop-i-init
-loop-i-init c = (search rules, refl)
-
-pub returns-else-set_loaded : goal.returns-else-set_loaded
-returns-else-set_loaded c = every_fails _ _ _ c.loop-i.invariant.1 (omega arith) (sym c.set_loaded.ensures ∙ c.if-set_loaded.false)
-
-pub loop-i-preserved : goal.loop-i-preserved
-loop-i-preserved c = (search rules, every_more _ _ _ c.loop-i.invariant.1 (omega arith) (sym c.set_loaded.ensures ∙ c.if-set_loaded.true))
-
 pub returns : goal.returns
-returns c = every_ends _ _ c.loop-i.i c.loop-i.invariant.1 (omega arith)
+returns c =
+    all_from_yields_List (set_loaded c.args.s.now) _ _ _ c.all.ensures.ran (YieldsList-from_slice c.args.members.now (cc)) (λ x b q k. search (rules, tests))
+    ∙ every_is _ _

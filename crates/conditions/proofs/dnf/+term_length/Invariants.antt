@@ -1,4 +1,0 @@
-use Rattle.conditions.proofs.dnf.+term_length.Given as goal
-
-abbrev pub decreases-term_length : goal.decreases-term_length
-decreases-term_length l = l.c

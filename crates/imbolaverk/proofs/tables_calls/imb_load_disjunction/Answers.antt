@@ -1,7 +1,0 @@
-use mathlib.Core.Path.{◌∙◌, ap}
-use Rattle.tables.specs.Answer.{loaded_number}
-use Rattle.imbolaverk.proofs.Links.{load_disjunction_told}
-use Rattle.imbolaverk.proofs.tables_calls.imb_load_disjunction.Goals as goal
-
-pub returns : goal.returns
-returns c = (c.loaded_number.ensures ∙ ap loaded_number c.load_disjunction.ensures.0 ∙ load_disjunction_told _ _ _ _, c.load_disjunction.ensures.1)
