@@ -9,10 +9,13 @@ use std::marker::Model;
 use store::{areas, limits, wide};
 use trail::entries;
 
+// A place for each variable.
+pub const PLACES: usize = limits::VARIABLES;
+
 // The touched variables, as a set: place v is true where v is one. Nothing is allocated.
 #[derive(Drop)]
 pub struct Touched {
-    places: [bool; limits::VARIABLES],
+    places: [bool; PLACES],
 }
 
 impl Model for Touched {
@@ -31,7 +34,7 @@ impl Touched {
         ensures { (v : ℕ) → member v result ≡ false }
     {
         Touched {
-            places: [false; limits::VARIABLES],
+            places: [false; PLACES],
         }
     }
 
@@ -44,9 +47,9 @@ impl Touched {
         self.places[wide(variable)]
     }
 
-    // Enters a variable.
+    // Enters a variable, so that a caller can make any set.
     #[tactic(auto, using(crate::proofs::Touched::entered_tells))]
-    fn enter(&mut self, v: u32)
+    pub fn enter(&mut self, v: u32)
         requires { v < variables }
         ensures { (x : ℕ) → member x self.new ≡ member x self.old || eqb x v }
     {
