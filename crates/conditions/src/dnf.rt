@@ -26,14 +26,14 @@ const MANY_SETS: u32 = limits::MOST_SETS as u32 + 1;
 
 // A term: the link that it is under, and its place among the terms there.
 #[derive(Clone, Copy, PartialEq, Eq)]
-struct Term {
-    link: usize,
-    index: usize,
+pub struct Term {
+    pub link: usize,
+    pub index: usize,
 }
 
 // Where a term comes from: a leaf's version set, a term under another link, or one followed by another.
 #[derive(Clone, Copy, PartialEq, Eq)]
-enum Way {
+pub enum Way {
     Leaf(u32),
     One(Term),
     Two(Term, Term),

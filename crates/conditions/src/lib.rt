@@ -14,6 +14,8 @@ pub mod disjunct;
 pub mod dnf;
 mod tree;
 
+pub use dnf::{Term, Way};
+
 // What a condition is rewritten to: how many terms, and how many version sets they have together.
 #[derive(Clone, Copy, PartialEq, Eq)]
 pub struct Rewritten {

@@ -1,8 +1,8 @@
 // The tree of a condition, as the words hold it. A link is the stored word: 0 for none, else one more than a node; the links below a node are at most its number.
-ghost use Rattle.std.specs.Prelude.{◌≤◌};
+ghost use Rattle.std.specs.Prelude.{◌≡◌, ◌≤◌};
 ghost use Rattle.store.specs.Limits.{nodes};
 ghost use Rattle.store.specs.Shape.{Sound};
-ghost use Rattle.conditions.specs.Tree.{Read};
+ghost use Rattle.conditions.specs.Tree.{node_at, Read};
 
 use store::{areas, codes, wide};
 
@@ -15,11 +15,12 @@ pub enum Node {
 }
 
 // The node under a link; none where it is not loaded.
-#[tactic(auto, using(crate::proofs::Terms::reading), unfolding(crate::specs::Dnf::node_terms))]
+#[tactic(auto, using(crate::proofs::Terms::reading), unfolding(crate::specs::Dnf::node_terms, crate::specs::Tree::node_at, crate::specs::Tree::node_of))]
 pub fn node_under(s: &[u32], link: usize) -> Option<Node>
     requires sound { Sound s.now }
     requires inside { link ≤ nodes }
-    ensures { Read s.now link result }
+    ensures node { result ≡ node_at s.now link }
+    ensures terms { Read s.now link result }
 {
     if link == 0 {
         return None;

@@ -1,9 +1,9 @@
 // The candidate lists under the present assignment: which candidate is true, which is the first undecided one, and how many are.
-ghost use Rattle.std.specs.Prelude.{[], ◌∷◌, ◌≡◌, ◌-◌, ◌≤◌, ◌<◌};
+ghost use Rattle.std.specs.Prelude.{[], ◌∷◌, ◌≡◌, ◌+◌, ◌-◌, ◌≤◌, ◌<◌};
 ghost use Rattle.std.specs.List.{All};
 ghost use Rattle.store.specs.Limits.{variables, requirements, lists};
 ghost use Rattle.store.specs.Shape.{Sound};
-ghost use Rattle.requirement.specs.Tables.{cells_of};
+ghost use Rattle.requirement.specs.Tables.{first_slot, list_count, cells_of};
 ghost use Rattle.rules.specs.Walk.{flattened, first_true, frontier, evaluate};
 ghost use Rattle.meaning.specs.View.{list_at, lists_at};
 ghost use Rattle.trail.specs.Assignment.{assigned};
@@ -71,6 +71,8 @@ fn list_frontier(s: &[u32], slot: usize) -> State
 pub fn slots_of(s: &[u32], key: usize) -> Range<usize>
     requires sound { Sound s.now }
     requires known { key < requirements }
+    ensures first { result.start ≡ first_slot key }
+    ensures behind { result.end ≡ first_slot key + list_count s.now key }
     ensures inside { result.end ≤ lists }
     ensures whole { from (list_at s.now) result.start (result.end - result.start) ≡ lists_at s.now key }
 {
