@@ -1,9 +1,37 @@
 // How refusals and lists are written in answer.
+ghost use Rattle.std.specs.Prelude.{◌≡◌, ℕ};
+ghost use Rattle.store.specs.Refusals.{number};
+
 use std::fmt;
 use std::io::{self, Write};
 use store::Refusal;
 
-pub fn refused<W: Write>(out: &mut W, refusal: Refusal) -> io::Result<()> {
+// What says by which number a call was refused: a refusal, or the number itself.
+pub trait RefusedBy: Copy {
+    ghost told: { Self → ℕ };
+
+    fn number(self) -> u32
+        ensures { result ≡ told self };
+}
+
+impl RefusedBy for Refusal {
+    ghost told = { number };
+
+    fn number(self) -> u32 {
+        Refusal::number(self)
+    }
+}
+
+// Any number, as a caller in C has it.
+impl RefusedBy for u32 {
+    ghost told = { λ n. n };
+
+    fn number(self) -> u32 {
+        self
+    }
+}
+
+pub fn refused<W: Write, R: RefusedBy>(out: &mut W, refusal: R) -> io::Result<()> {
     writeln!(out, "refused {}", refusal.number())
 }
 
