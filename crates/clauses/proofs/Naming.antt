@@ -41,7 +41,7 @@ one_name w first i = go (new_name w first i)
     go true = omega arith
     go false = omega arith
 
-new-names-few : (w : List ℕ) (first n : ℕ) → new_names w first n ≤ n
+pub new-names-few : (w : List ℕ) (first n : ℕ) → new_names w first n ≤ n
 unfolding new_names
 new-names-few w first zero = omega arith
 new-names-few w first (suc n) = omega (arith, one_name w first n, new-names-few w first n)

@@ -41,7 +41,15 @@ at-cross (x ∷ l) r (suc a) b h k =
     let e : suc a * length r + b ≡ length (prefixed x r) + (a * length r + b) = omega (arith, suc-mul a (length r), length_prefixed x r) in
     rw e (get_or-append-add (prefixed x r) (cross l r) (a * length r + b) [] ∙ at-cross l r a b (omega arith) k)
 
--- one more than a limit stands for every product that is above it
+-- one more than a limit stands for all that are above it
+module _ (m : ℕ) where
+  pub min_below : (n : ℕ) → min m n < m → min m n ≡ n
+  min_below n l = omega arith
+
+  pub sat_add : (a b : ℕ) → min m (min m a + min m b) ≡ min m (a + b)
+  sat_add a b = omega arith
+
+-- and for every product that is above it
 sat-mul : (m a b : ℕ) → min m (min m a * min m b) ≡ min m (a * b)
 sat-mul m a b =
     ⊎_elim

@@ -1,7 +1,7 @@
 -- Parts of lists, place by place. Assumes nothing.
 use mathlib.Core.List.{List}
 use mathlib.Core.Path.{◌≡◌, refl, sym, ◌∙◌}
-use Prim.Native.Nat.{ℕ, ◌+◌, ◌≤◌, ◌<◌}
+use Prim.Native.Nat.{ℕ, ◌+◌, ◌-◌, ◌≤◌, ◌<◌}
 use native.Mathlib.Omega.{arith}
 use lib.ListN.{length, get_or, take, drop, length-take, length-drop}
 use lib.Seq.{get_or-take, get_or-drop, ext_get_or, length-take-le}
@@ -21,3 +21,13 @@ run_is n st a b h k f =
     (λ i l.
     let m : i < n = omega arith in
     get_or-take n (drop st a) i 0 m ∙ get_or-drop st a i 0 ∙ f i m ∙ sym (get_or-take n b i 0 m))
+
+-- a list cut at both ends
+pub drop_take : (m n : ℕ) (l : List ℕ) → drop m (take n l) ≡ take (n - m) (drop m l)
+drop_take m n l =
+    ext_get_or 0 (drop m (take n l)) (take (n - m) (drop m l)) (simp (length-take, length-drop) (omega arith))
+    (λ i h.
+    let k : m + i < n = omega (arith, length-drop m (take n l), length-take n l) in
+    get_or-drop m (take n l) i 0
+    ∙ get_or-take n l (m + i) 0 k
+    ∙ sym (get_or-take (n - m) (drop m l) i 0 (omega arith) ∙ get_or-drop m l i 0))
