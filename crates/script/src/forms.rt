@@ -335,7 +335,10 @@ impl<'a> Asked<'a> {
             name: self.number(1)?,
             activity: self.read(2, Expected::Activity, |word| match word {
                 Word::Number(bits) => Some(Activity::Bits(bits)),
-                Word::Fraction(fraction) => Some(Activity::Fraction(fraction)),
+                Word::Fraction { places, digits } => {
+                    let divisor = 10u32.checked_pow(u32::from(places))?;
+                    Some(Activity::Fraction(Fraction { digits, divisor }))
+                }
                 _ => None,
             })?,
         })

@@ -11,6 +11,9 @@ pub const MOST_WORDS: usize = MOST_BYTES / 2;
 // of nine places: one division then gives the float that is nearest to the fraction.
 const MOST_DIGITS: u32 = 16_777_216;
 
+// The most places: the power of ten is a u32 too.
+const MOST_PLACES: usize = 9;
+
 // A decimal fraction: the number that its digits are, and the power of ten that divides it.
 #[derive(Clone, Copy, PartialEq, Eq)]
 pub struct Fraction {
@@ -23,7 +26,8 @@ pub enum Word {
     // None of the others.
     Unknown,
     Number(u32),
-    Fraction(Fraction),
+    // How many of the digits stand behind the point, and the number that all are. In this order a word takes eight bytes.
+    Fraction { places: u8, digits: u32 },
     Semicolon,
     Dash,
     None,
@@ -51,12 +55,13 @@ fn with_digits(number: u32, digits: &[u8]) -> Option<u32> {
         .try_fold(number, |number, byte| with_digit(number, *byte))
 }
 
-// A fraction of these digits before its point and these places behind it, of which there are up to nine: the power of ten is a u32.
-fn fraction_of(whole: &[u8], places: &[u8]) -> Option<Fraction> {
+// A fraction of these digits before its point and these places behind it.
+fn fraction_of(whole: &[u8], places: &[u8]) -> Option<Word> {
     let digits = with_digits(with_digits(0, whole)?, places)?;
-    let divisor = 10u32.checked_pow(u32::try_from(places.len()).ok()?)?;
-    if digits <= MOST_DIGITS {
-        Some(Fraction { digits, divisor })
+    let count = places.len();
+    if digits <= MOST_DIGITS && count <= MOST_PLACES {
+        let places = count as u8;
+        Some(Word::Fraction { places, digits })
     } else {
         None
     }
@@ -65,7 +70,7 @@ fn fraction_of(whole: &[u8], places: &[u8]) -> Option<Fraction> {
 // A word that begins with a digit: a u32, or a fraction where it has a point.
 fn decimal(bytes: &[u8]) -> Option<Word> {
     match bytes.iter().position(|byte| *byte == b'.') {
-        Some(point) => fraction_of(&bytes[..point], &bytes[point + 1..]).map(Word::Fraction),
+        Some(point) => fraction_of(&bytes[..point], &bytes[point + 1..]),
         None => with_digits(0, bytes).map(Word::Number),
     }
 }

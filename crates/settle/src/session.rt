@@ -21,8 +21,6 @@ enum Input {
 pub struct Session<W> {
     desk: Desk<W>,
     line: Line,
-    // Room for its words: fixed, so that no line runs out of memory.
-    words: [Word; MOST_WORDS],
     input: Input,
     // Whether lines are said before their answers.
     is_echoed: bool,
@@ -49,7 +47,6 @@ impl<W: Write> Session<W> {
         Session {
             desk: Desk::new(out),
             line: Line::first(),
-            words: [Word::Unknown; MOST_WORDS],
             input: Input::Open,
             is_echoed: is_echo_asked(rt),
             misread: 0,
@@ -60,7 +57,6 @@ impl<W: Write> Session<W> {
         let Session {
             desk,
             line: _line,
-            words: _words,
             input: _input,
             is_echoed: _is_echoed,
             misread: _misread,
@@ -70,17 +66,17 @@ impl<W: Write> Session<W> {
     }
 
     // Says the line, if that is asked, and answers it.
-    fn answer_line(&mut self) -> io::Result<Told> {
+    fn answer_line(&mut self, room: &mut [Word; MOST_WORDS]) -> io::Result<Told> {
         if self.is_echoed {
             self.desk.out.write_all(b"> ")?;
             self.desk.out.write_all(self.line.text())?;
             self.desk.out.write_all(b"\n")?;
         }
-        self.desk.answer(&self.line, &mut self.words)
+        self.desk.answer(&self.line, room)
     }
 
-    fn end_line(&mut self, rt: &impl Eprint) {
-        match self.answer_line() {
+    fn end_line(&mut self, rt: &impl Eprint, room: &mut [Word; MOST_WORDS]) {
+        match self.answer_line(room) {
             Ok(Told::Well) => {}
             Ok(Told::NotUnderstood) => self.misread = self.misread.wrapping_add(1),
             Ok(Told::Quit) => self.input = Input::Over,
@@ -103,13 +99,13 @@ impl<W: Write> Session<W> {
         }
     }
 
-    fn take_bytes(&mut self, rt: &impl Eprint, chunk: &[u8]) {
+    fn take_bytes(&mut self, rt: &impl Eprint, chunk: &[u8], room: &mut [Word; MOST_WORDS]) {
         for byte in chunk {
             if self.input != Input::Open {
                 return;
             }
             if *byte == b'\n' {
-                self.end_line(rt);
+                self.end_line(rt, room);
             } else {
                 self.line.keep(*byte);
             }
@@ -117,35 +113,63 @@ impl<W: Write> Session<W> {
     }
 
     // Reads once, answers the lines that end in what came, and puts the answers out.
-    fn read_some<R: Read>(&mut self, rt: &impl Eprint, input: &mut R) {
+    fn read_some<R: Read>(
+        &mut self,
+        rt: &impl Eprint,
+        input: &mut R,
+        room: &mut [Word; MOST_WORDS],
+    ) {
         let mut chunk = [0u8; CHUNK];
         match input.read(&mut chunk) {
             Ok(0) => self.input = Input::Over,
             Ok(n) => {
-                self.take_bytes(rt, &chunk[..n]);
+                self.take_bytes(rt, &chunk[..n], room);
                 self.put_out(rt);
             }
-            Err(error) => {
-                let _ = eprintln!(rt; "settle: the calls cannot be read: {error}");
-                self.input = Input::Failed;
-            }
+            Err(error) => self.fail_unread(rt, &error),
         }
     }
 
-    // Nothing says that the input ends, so there are as many turns as no run uses up.
-    pub fn read_all<R: Read>(&mut self, rt: &impl Eprint, input: &mut R) {
+    fn fail_unread(&mut self, rt: &impl Eprint, error: &io::Error) {
+        let _ = eprintln!(rt; "settle: the calls cannot be read: {error}");
+        self.input = Input::Failed;
+    }
+
+    // Answers what the first read brought, and reads on. The room for a line's words is fixed, so that no line runs out of memory. Not inlined,
+    // so that an empty input needs no stack for it. Nothing says that the input ends, so there are as many turns as no run uses up.
+    #[inline(never)]
+    fn read_on<R: Read>(&mut self, rt: &impl Eprint, input: &mut R, first: &[u8]) {
+        let mut room = [Word::Unknown; MOST_WORDS];
+        self.take_bytes(rt, first, &mut room);
+        self.put_out(rt);
         for _ in 0..u64::MAX {
             if self.input != Input::Open {
                 return;
             }
-            self.read_some(rt, input);
+            self.read_some(rt, input, &mut room);
         }
+    }
+
+    pub fn read_all<R: Read>(&mut self, rt: &impl Eprint, input: &mut R) {
+        let mut chunk = [0u8; CHUNK];
+        match input.read(&mut chunk) {
+            Ok(0) => self.input = Input::Over,
+            Ok(n) => self.read_on(rt, input, &chunk[..n]),
+            Err(error) => self.fail_unread(rt, &error),
+        }
+    }
+
+    // Ends a line with no line end, in room like that of `read_on`.
+    #[inline(never)]
+    fn end_open_line(&mut self, rt: &impl Eprint) {
+        let mut room = [Word::Unknown; MOST_WORDS];
+        self.end_line(rt, &mut room);
     }
 
     // A last line may lack its line end.
     pub fn end_last(&mut self, rt: &impl Eprint) {
         if self.input != Input::Failed && !self.line.is_empty() {
-            self.end_line(rt);
+            self.end_open_line(rt);
             self.put_out(rt);
         }
     }

@@ -14,36 +14,6 @@ const TERMS: usize = limits::MOST_TERMS;
 // The most version sets that they have together.
 const SETS: usize = TERMS * limits::MOST_SETS;
 
-// Conjuncts, each a kind over a range of the cells.
-#[derive(Drop)]
-struct Conjuncts {
-    kinds: Numbers,
-    starts: Numbers,
-    lengths: Numbers,
-    cells: Numbers,
-}
-
-impl Conjuncts {
-    fn new() -> Self {
-        Conjuncts {
-            kinds: Numbers::new(),
-            starts: Numbers::new(),
-            lengths: Numbers::new(),
-            cells: Numbers::new(),
-        }
-    }
-
-    // Takes one as it is written: a kind and then its candidates.
-    fn take(&mut self, conjunct: &[Word]) {
-        if let [Word::Number(kind), candidates @ ..] = conjunct {
-            self.kinds.push(*kind);
-            self.starts.push(self.cells.as_slice().len() as u32);
-            let length = packs::take(candidates, &mut self.cells);
-            self.lengths.push(length);
-        }
-    }
-}
-
 impl<W: Write> Desk<W> {
     // Lends room for so many terms and version sets as the line says, or for all that there can be.
     pub fn rewrite(&mut self, node: u32, room: Option<(u32, u32)>) -> io::Result<()> {
@@ -64,16 +34,26 @@ impl<W: Write> Desk<W> {
     }
 
     pub fn holds(&mut self, words: &[Word]) -> io::Result<()> {
-        let mut conjuncts = Conjuncts::new();
+        // Conjuncts, each a kind over a range of the cells.
+        let mut kinds = Numbers::new();
+        let mut starts = Numbers::new();
+        let mut lengths = Numbers::new();
+        let mut cells = Numbers::new();
         for conjunct in words.split(|word| *word == Word::Semicolon) {
-            conjuncts.take(conjunct);
+            // As it is written: a kind and then its candidates.
+            if let [Word::Number(kind), candidates @ ..] = conjunct {
+                kinds.push(*kind);
+                starts.push(cells.as_slice().len() as u32);
+                let length = packs::take(candidates, &mut cells);
+                lengths.push(length);
+            }
         }
         let answer = conditions::disjunct_holds(
             &self.store,
-            conjuncts.kinds.as_slice(),
-            conjuncts.starts.as_slice(),
-            conjuncts.lengths.as_slice(),
-            conjuncts.cells.as_slice(),
+            kinds.as_slice(),
+            starts.as_slice(),
+            lengths.as_slice(),
+            cells.as_slice(),
         );
         match answer {
             Ok(holds) => writeln!(self.out, "holds {}", u32::from(holds)),
