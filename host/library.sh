@@ -2,7 +2,7 @@
 # Proves a library of this repository and writes its archive; usage() says how it is called and what it writes.
 set -e
 me=library.sh
-first_time="about ten minutes on four cores"
+first_time="up to a quarter of an hour on four cores"
 own=$(readlink -f "$0")
 here=$(cd "$(dirname "$own")/.." && pwd)
 . "$here/host/proving.sh"
