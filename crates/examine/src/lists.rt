@@ -1,10 +1,10 @@
 // The candidate lists under the present assignment: which candidate is true, which is the first undecided one, and how many are.
-ghost use Rattle.std.specs.Prelude.{[], ◌∷◌, ◌≡◌, ◌+◌, ◌-◌, ◌≤◌, ◌<◌};
+ghost use Rattle.std.specs.Prelude.{[], ◌∷◌, ◌≡◌, ◌+◌, ◌-◌, ◌≤◌, ◌<◌, length};
 ghost use Rattle.std.specs.List.{All};
-ghost use Rattle.store.specs.Limits.{variables, requirements, lists};
+ghost use Rattle.store.specs.Limits.{variables, requirements, lists, cell_room};
 ghost use Rattle.store.specs.Shape.{Sound};
 ghost use Rattle.requirement.specs.Tables.{first_slot, list_count, cells_of};
-ghost use Rattle.rules.specs.Walk.{flattened, first_true, frontier, evaluate};
+ghost use Rattle.rules.specs.Walk.{flattened, first_true, count_undecided, frontier, evaluate};
 ghost use Rattle.meaning.specs.View.{list_at, lists_at};
 ghost use Rattle.trail.specs.Assignment.{assigned};
 ghost use Rattle.rules.specs.Numbers.{from};
@@ -38,6 +38,20 @@ fn list_true(s: &[u32], slot: usize) -> Option<u32>
     cells.iter().copied().find(|x| assignment::is_true(s, *x))
 }
 
+// How many cells are undecided. Each adds one or nothing, so that the processor has nothing to guess: by `filter` and `count` a list of
+// 2,000 cells of which half are undecided takes five times as long.
+fn count_undecided(s: &[u32], cells: &[u32]) -> u32
+    requires sound { Sound s.now }
+    requires named { All (λ x. x < variables) cells.now }
+    requires few { length cells.now ≤ cell_room }
+    ensures { result ≡ count_undecided (assigned s.now) cells.now }
+{
+    cells
+        .iter()
+        .map(|x| u32::from(assignment::is_undecided(s, *x)))
+        .sum()
+}
+
 // The first undecided candidate of a list, with the list's name and its number of undecided cells.
 fn list_frontier(s: &[u32], slot: usize) -> State
     requires sound { Sound s.now }
@@ -52,14 +66,11 @@ fn list_frontier(s: &[u32], slot: usize) -> State
     {
         Some(candidate) => {
             let name = candidates::name_at(s, slot);
-            let count = cells
-                .iter()
-                .filter(|x| assignment::is_undecided(s, **x))
-                .count();
+            let count = count_undecided(s, cells);
             State::Frontier {
                 candidate,
                 name,
-                count: count as u32,
+                count,
             }
         }
         None => State::Dead,
