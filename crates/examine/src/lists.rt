@@ -38,8 +38,8 @@ fn list_true(s: &[u32], slot: usize) -> Option<u32>
     cells.iter().copied().find(|x| assignment::is_true(s, *x))
 }
 
-// How many cells are undecided. Each adds one or nothing, so that the processor has nothing to guess: by `filter` and `count` a list of
-// 2,000 cells of which half are undecided takes five times as long.
+// How many cells are undecided. Each adds one or nothing, so that the processor has nothing to guess: by `filter` and `count` it guesses at
+// each cell, and a long list of which half is undecided takes several times as long.
 fn count_undecided(s: &[u32], cells: &[u32]) -> u32
     requires sound { Sound s.now }
     requires named { All (λ x. x < variables) cells.now }

@@ -41,7 +41,7 @@ fn in_literals(s: &[u32], touched: &Touched, start: usize, n: usize) -> bool
     (start..start + n).any(|i| touched.has(areas::LITERAL_VARIABLES.at(s, i)))
 }
 
-// Whether a variable of a condition is, as a clause stores it. Most clauses have none, and for them this test is less than a loop over no literals.
+// Whether a variable of a condition is, as a clause stores it. Where there is none, the test for it is less than a loop over no literals.
 #[tactic(auto, using(examine::proofs::Literals::literals), unfolding(meaning::specs::View::literals_at, rules::specs::Sync::mentions))]
 pub fn in_condition(s: &[u32], touched: &Touched, condition: u32) -> bool
     requires sound { Sound s.now }
