@@ -1,9 +1,9 @@
 -- The cells of a list, and what the library's searches say of them. Assumes nothing.
 use Rattle.meaning.proofs.Reading.{span_of}
 use Rattle.std.specs.Prelude.{Some}
-use Rattle.std.specs.List.{All, find, sum_by}
+use Rattle.std.specs.List.{All, find, count_by, sum_by}
 use Rattle.std.proofs.lemmas.List.{get_or_default}
-use Rattle.std.proofs.lemmas.List.Recursion.{is_sum_by}
+use Rattle.std.proofs.lemmas.List.Recursion.{is_count_by, is_sum_by}
 use mathlib.Core.Bool.{Bool, true, false, cond}
 use mathlib.Core.List.{List, [], ◌∷◌}
 use mathlib.Core.Path.{◌≡◌, refl, ap, sym}
@@ -45,7 +45,16 @@ unfolding first_that
 found_is p [] = refl
 found_is p (x ∷ xs) = ap (cond (p x) (Some x)) (found_is p xs)
 
--- how many are undecided: the sum of a one for each
+-- how many are undecided: the count of those that are
+pub counted_is : (a : ℕ → Value) (xs : List ℕ) → count_by (λ v. is_undecided (a v)) xs ≡ count_undecided a xs
+unfolding count_undecided
+counted_is a xs = sym (is_count_by (count_undecided a) (λ v. is_undecided (a v)) refl (λ x ys. go (is_undecided (a x)) (count_undecided a ys)) xs)
+  where
+    go : (b : Bool) (n : ℕ) → cond b (suc n) n ≡ cond b (1 + n) n
+    go true n = omega arith
+    go false n = refl
+
+-- and the sum of a one for each
 pub undecided_sum : (a : ℕ → Value) (xs : List ℕ) → sum_by (λ v. cond (is_undecided (a v)) 1 0) xs ≡ count_undecided a xs
 unfolding count_undecided
 undecided_sum a xs = sym (is_sum_by (count_undecided a) (λ v. cond (is_undecided (a v)) 1 0) refl (λ x ys. go (is_undecided (a x)) (count_undecided a ys)) xs)

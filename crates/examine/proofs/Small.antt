@@ -50,7 +50,7 @@ found-small p (v ∷ vs) x e h = go (p v) h (found-small p vs x all.1)
     go false q ih = ih q
 
 -- a list has at most as many undecided cells as it has cells
-count_most : (a : ℕ → Value) (vs : List ℕ) → count_undecided a vs ≤ length vs
+pub count_most : (a : ℕ → Value) (vs : List ℕ) → count_undecided a vs ≤ length vs
 unfolding count_undecided
 count_most a [] = omega arith
 count_most a (v ∷ vs) = go (is_undecided (a v)) (count_most a vs)
